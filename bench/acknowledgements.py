@@ -89,11 +89,11 @@ def main():
         typical = b"".join(burst(pairs[n:n + 16]) for n in range(0, 512, 16))
         size = sum(len(HEAD + body) for body in pairs)
         most = 20 * (instructions(program, conf, kept + typical) - base) / size
-        print("a typical transaction: %.0f instructions a byte, so at most %.0f" % (most / 20, most))
+        print("| Datagrams of | instructions a byte | at most |\n|---|---|---|\n| a typical transaction | %.0f | |" % (most / 20))
         for what, bursts in kinds():
             size = sum(len(HEAD + body) for bodies in bursts for body in bodies)
             taken = (instructions(program, conf, kept + b"".join(burst(bodies) for bodies in bursts)) - base) / size
-            print("%s: %.0f instructions a byte%s" % (what, taken, "" if taken <= most else ", which is above"), flush=True)
+            print("| %s | %.0f | %.0f |" % (what, taken, most), flush=True)
             failed |= taken > most
     sys.exit(1 if failed else 0)
 

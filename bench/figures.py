@@ -3,9 +3,9 @@
 
     python3 bench/figures.py [WORD]
 
-Above a table stands `<!-- bench/NAME.py WORDS -->`. That command is run, and the lines of its output that begin with `|` take the table's place. The
+Above tables stands `<!-- bench/NAME.py WORDS -->`. That command is run, and the lines of its output that begin with `|` take the tables' place. The
 page's second line says on which machine and day. With a word, only the commands that have it are run. Run it at the top of the repository on the program
-that `rt run` in crates/h248gw has built, with nothing beside it. It fails where a bench fails, and goes on with the others.
+that `rt run` in crates/h248gw has built, with nothing beside it. It fails where a bench fails or prints no table, and goes on with the others.
 """
 import datetime
 import os
@@ -26,10 +26,11 @@ def machine():
     return f"Measured on {datetime.date.today():%Y-%m-%d} on {os.cpu_count()} cores of an {model}, with `{kit}`."
 
 
-def table_of(words):
-    """The lines of the tables that a bench prints, and whether it passed."""
+def tables_of(words):
+    """The lines of the tables that a bench prints, with an empty line between two, and whether it passed."""
     run = subprocess.run([sys.executable, *words], stdout=subprocess.PIPE, text=True, check=False)
-    return [line for line in run.stdout.splitlines() if line.startswith("|")], run.returncode == 0
+    tables = re.findall(r"(?:^\|.*\n)+", run.stdout, re.M)
+    return "\n".join(tables).splitlines(), run.returncode == 0 and tables != []
 
 
 def main():
@@ -45,12 +46,12 @@ def main():
         mark = MARK.fullmatch(line)
         if not mark or chosen not in mark[1]:
             continue
-        table, passed = table_of(mark[1].split())
+        tables, passed = tables_of(mark[1].split())
         if not passed:
             failed.append(mark[1])
         while place < len(lines) and (lines[place].startswith("|") or not lines[place]):
             place += 1
-        out += ["", *table, ""]
+        out += ["", *tables, ""]
     PAGE.write_text("\n".join(out) + "\n")
     for words in failed:
         print(f"failed: {words}", file=sys.stderr)

@@ -13,8 +13,8 @@ fill, and a Subtract of both.
 terminations and 4,096 kept replies, in bursts of 1, 4, 16 and 256, and with 4 kept replies in bursts of 16; it fails where one costs more
 than 15,000 in bursts of 16, more than half as much again in bursts of its own, or more than a twentieth more in one of the others than in
 another, or with 4,096 kept replies than with 4.
-`--waves` measures bursts of 1,024 transactions that stand in one another's way, or do not, with one worker and with three; it fails
-where the costliest costs more than ten times the mean.
+`--waves` measures bursts of 1,024 transactions that stand in one another's way, or do not, with one worker and with three, whose
+processors are counted together; it fails where three take more than 4,000 more than one on 1,024 contexts, or 1.3 times as many on one.
 `--records` measures what executing costs beside the burst, and the memory of bare terminations; it fails where one is above its limit.
 """
 import pathlib
@@ -40,10 +40,11 @@ def record(body):
 
 
 def bursts(bodies, size):
-    """The bodies as datagrams, so many in a burst."""
-    out = []
+    """Bursts of so many of the bodies, in at most 256 datagrams each."""
+    out, each = [], max(1, size // 256)
     for place in range(0, len(bodies), size):
-        out += [record(body) for body in bodies[place:place + size]] + [b".\n"]
+        burst = bodies[place:place + size]
+        out += [record(b" ".join(burst[first:first + each])) for first in range(0, len(burst), each)] + [b".\n"]
     return b"".join(out)
 
 
@@ -127,12 +128,8 @@ def repeats(folder):
     print("| Burst, 4,096 replies kept | instructions for each |")
     print("|---|---|")
     for count in (64, 1_024):
-        # So many transactions in at most 256 datagrams, four in each where there are more.
-        each = max(1, count // 256)
         for name, first in (("new transactions", 10_000), ("repeats", 1)):
-            numbers = range(first, first + count)
-            bodies = [b" ".join(AUDIT % number for number in numbers[place:place + each]) for place in range(0, count, each)]
-            work = instructions(conf, before + bursts(bodies, 256)) - base
+            work = instructions(conf, before + bursts([AUDIT % number for number in range(first, first + count)], count)) - base
             print(f"| {count:,} {name} | {work / count:,.0f} |")
 
 
@@ -184,13 +181,13 @@ def waves(folder):
     found = {}
     for name, (contexts, asked) in WAVES.items():
         made = bursts([b"Transaction=%d{Context=${Add=T/%d,Add=T/%d}}" % (5_000 + n, 2 * n + 1, 2 * n + 2) for n in range(contexts)], 256)
-        bodies = [b"Transaction=%d{%s}" % (n + 1, asked(n)) for n in range(1_024)]
-        burst = bursts([b" ".join(bodies[place:place + 4]) for place in range(0, 1_024, 4)], 256)
+        burst = bursts([b"Transaction=%d{%s}" % (n + 1, asked(n)) for n in range(1_024)], 1_024)
         found[name] = [(instructions(conf, made + burst, workers=workers) - instructions(conf, made, workers=workers)) / 1_024 for workers in (1, 3)]
     print("| A burst of 1,024 transactions | instructions for each, one worker | three |\n|---|---|---|")
     for name, (one, three) in found.items():
         print(f"| {name} | {one:,.0f} | {three:,.0f} |")
-    return any(max(of[k] for of in found.values()) > 10 * sum(of[k] for of in found.values()) / len(found) for k in (0, 1))
+    (chain, in_turn), (apart, in_waves) = found["on one context"], found["on 1,024 contexts"]
+    return in_turn > 1.3 * chain or in_waves > apart + 4_000
 
 
 def of_all(folder, terms, fill, body):

@@ -1,144 +1,119 @@
 #!/usr/bin/env python3
-"""Measures what workers bring: `replay` in bursts of 1, 16, 64 and 256 datagrams with 1, 2 and 4 workers, all in one run.
+"""Measures what workers bring: transactions a second with one worker, and how many times as many with 2 and with 4.
 
-    python3 bench/workers.py [PROGRAM]
+    python3 bench/workers.py [--quick] [PROGRAM]
 
-Run it at the top of the repository, after `rt run` in crates/h248gw has built the program, with as little beside it as can be. Three
-kinds of transactions: typical ones of every day (each pair sets a call up and ends it), audits of all items of a context of 64
-members, and Adds with a Local and a Remote of some 8,000 bytes, with the Subtract of each. A rate is that of the whole process less that of a
-replay of nothing, the best of five. What a burst of one costs with one worker is told in instructions too, by valgrind's callgrind.
-Below each kind stands from which size of bursts on 2 and 4 workers are faster than one by a tenth at least. It fails where one
-worker is slower in bursts of 256 than in bursts of 1 by a half, or where the answers of 2 or 4 workers are not those of one.
+Run it at the top of the repository, after `rt run` in crates/h248gw has built the program. Bursts are of 16, 256 and
+1,024 transactions, these four to a datagram. Typical calls are set up in 256 contexts and ended; so are calls of one
+Add, whose Local of 8,000 bytes is filled, in 128. Audits are of all items of a context of 64 members, sixteen in turn;
+a chain is audits of one termination. In a mix one transaction in 64 is an audit of all contexts. Times are those of
+whole processes, less that of what is made before; the best of five turns, each of 1, 2 and 4 workers.
+
+It fails where answers are not those of one worker, and with 4 idle cores where a ratio is too low: in bursts of 1,024
+typical calls below 1.2 with 2 workers and 1.5 with 4, audits below 2.2 with 4, a chain below 0.8; in bursts of 256
+Locals below 1.5 with 4 (larger ones have more than 1,048,576 bytes, so one worker). --quick: these sizes alone.
 """
-import os
+import itertools
 import pathlib
 import subprocess
 import sys
 import tempfile
 import time
+from typing import Callable, NamedTuple
 
+import replays
 import usage
 
-PROGRAM = "crates/h248gw/out/h248gw"
-HEAD = b"MEGACO/1 [10.0.0.9]:2944 "
-SIZES = [1, 16, 64, 256]
-WORKERS = [1, 2, 4]
-CONTEXTS = 256
-ADDS = (b"Transaction=%d{Context=${Add=T/%d{Media{Stream=1{LocalControl{Mode=SendReceive}}},Events=2223{al/on}},"
-        b"Add=${Media{Stream=1{LocalControl{Mode=ReceiveOnly},Local{\nv=0\nc=IN IP4 $\nm=audio $ RTP/AVP 0\na=ptime:20\n}}}}}}")
-LARGE = b"Transaction=%d{Context=${Add=T/%d{Media{Stream=1{Local{%s},Remote{%s}}}}}}"
-TEXT = b"v=0\n" + b"a=fmtp:96 profile-level-id=42e01f\n" * 235
-SUBTRACT = b"Transaction=%d{Context=%d{Subtract=*}}"
+SIZES, WORKERS, TURNS = (16, 256, 1_024), (1, 2, 4), 5
+ADD = b"Transaction=%d{Context=${Add=${Media{Stream=1{Local{%s}}}}}}"
+LOCAL = b"v=0\nc=IN IP4 $\nm=audio $ RTP/AVP 96\n" + b"a=fmtp:96 profile-level-id=42e01f\n" * 234
+MEMBER = b"Add=T/%d{Media{Stream=1{LocalControl{Mode=SendReceive},Local{v=0},Remote{v=0}}}}"
+MADE = [b"Transaction=%d{Context=${%s}}" % (1_000_000 + first, b",".join(MEMBER % n for n in range(first, first + 64)))
+        for first in range(1, 1_025, 64)]
+AUDIT = b"Transaction=%d{Context=%d{AuditValue=*{Audit{Media,Events,Signals,DigitMap}}}}"
+LINK = b"Transaction=%d{Context=1{AuditValue=T/1{Audit{}}}}"
+FOR_ALL = b"Transaction=%d{Context=*{AuditValue=*{Audit{}}}}"
 
 
-def record(body):
-    datagram = HEAD + body
-    return b"D 7 %d\n%s\n" % (len(datagram), datagram)
+class Kind(NamedTuple):
+    """Transactions, each by its number and by how many of its kind are before it; in bursts of a size, the ratios."""
+    name: str
+    count: int
+    body: Callable
+    made: list
+    size: int
+    wanted: tuple
 
 
-def bursts(bodies, size):
-    out = []
-    for place in range(0, len(bodies), size):
-        out += [record(body) for body in bodies[place:place + size]] + [b".\n"]
-    return b"".join(out)
+def calls(contexts, add):
+    """Calls that are set up, one in each context, and then ended. Contexts are numbered on and on."""
+    def body(number, before):
+        rounds, place = divmod(before, 2 * contexts)
+        made = (rounds - 1) * contexts + place + 1
+        return add(number, place + 1) if place < contexts else replays.SUBTRACT % (number, made)
+    return body
 
 
-def pairs(count, setup):
-    """Transactions that set up so many contexts in turn, and then those that end them, over and over."""
-    bodies, number = [], 0
-    while len(bodies) < count:
-        first = number
-        for place in range(CONTEXTS):
-            number += 1
-            bodies.append(setup(number, place))
-        for place in range(CONTEXTS):
-            number += 1
-            bodies.append(SUBTRACT % (number, place + 1))
-        # The numbers of contexts go round: each time the same ones are free.
-        assert first < number
-    return bodies[:count]
+KINDS = [
+    Kind("typical calls", 20_480, calls(256, lambda n, term: replays.ADDS % (n, term)), [], 1_024, (1.2, 1.5)),
+    Kind("audits of 64 members", 2_048, lambda n, before: AUDIT % (n, before % 16 + 1), MADE, 1_024, (0, 2.2)),
+    Kind("Locals of 8,000 bytes", 4_096, calls(128, lambda n, term: ADD % (n, LOCAL)), [], 256, (0, 1.5)),
+    Kind("a chain", 20_480, lambda n, before: LINK % n, MADE, 1_024, (0.8, 0.8)),
+]
 
 
-def typical(count):
-    return b"", pairs(count, lambda number, place: ADDS % (number, place))
+def run(conf, given, workers, out):
+    """The seconds that a replay takes, and its answers."""
+    given.seek(0)
+    begin, words = time.perf_counter(), [replays.PROGRAM, "replay", conf, "--workers", str(workers)]
+    done = subprocess.run(words, stdin=given, stdout=out, check=True)
+    return time.perf_counter() - begin, done.stdout
 
 
-def large(count):
-    return b"", pairs(count, lambda number, place: LARGE % (number, place, TEXT, TEXT))
+def measured(conf, replay):
+    """The fewest seconds that a replay takes with 1, 2 and 4 workers, and the answers of each."""
+    with tempfile.TemporaryFile(buffering=0) as given:
+        given.write(replay)
+        turns = [[run(conf, given, workers, subprocess.DEVNULL)[0] for workers in WORKERS] for _ in range(TURNS)]
+        return list(map(min, zip(*turns))), [run(conf, given, workers, subprocess.PIPE)[1] for workers in WORKERS]
 
 
-def audits(count):
-    """Contexts of 64 members with Media, and audits of all items of one context after another."""
-    contexts = 16
-    media = b"{Media{Stream=1{LocalControl{Mode=SendReceive},Local{v=0},Remote{v=0}}}}"
-    made = [b"Transaction=%d{Context=${%s}}" % (1_000_001 + place, b",".join(
-        b"Add=T/%d%s" % (place * 64 + member, media) for member in range(64))) for place in range(contexts)]
-    asked = [b"Transaction=%d{Context=%d{AuditValue=*{Audit{Media,Events,Signals,DigitMap}}}}" % (number, number % contexts + 1)
-             for number in range(1, count + 1)]
-    return bursts(made, 16), asked
+def faults(conf, kind, mixed, size, looks):
+    """Prints the row of a kind in bursts of a size; what is wrong with it, with the ratios only where it looks."""
+    made, name, before = replays.bursts(kind.made, 16), kind.name + ", mixed" * mixed, itertools.count()
+    bodies = [FOR_ALL % n if mixed and n % 64 == 0 else kind.body(n, next(before)) for n in range(1, kind.count + 1)]
+    nothing, (took, answers) = measured(conf, made)[0], measured(conf, made + replays.bursts(bodies, size))
+    one, two, four = (max(whole - part, 1e-9) for whole, part in zip(took, nothing))
+    print(f"| {name} | {size:,} | {kind.count / one / 1_000:,.1f} | {one / two:.2f} | {one / four:.2f} |", flush=True)
+    out = ["other answers with more workers"] * any(each != answers[0] for each in answers)
+    ratios = zip((one / two, one / four), kind.wanted * looks)
+    out += [f"a ratio of {ratio:.2f}, not {wanted}" for ratio, wanted in ratios if ratio < wanted]
+    return [f"{name}, bursts of {size}: {what}" for what in out]
 
 
-def config(folder):
-    lines = ["mid [10.0.0.1]:2944", "media 10.0.0.1", "contexts %d" % CONTEXTS, "slots 4096", "members 64", "keep 4"]
-    lines += ["term T/%d" % n for n in range(1_024)]
-    path = pathlib.Path(folder) / "workers.conf"
-    path.write_text("\n".join(lines) + "\n")
-    return str(path)
+def idle_cores():
+    """How many cores have nothing to do, over a second."""
+    def uptime():
+        return map(float, pathlib.Path("/proc/uptime").read_text().split())
 
-
-def run(program, conf, replay, workers):
-    with open(replay, "rb") as given:
-        begin = time.monotonic()
-        done = subprocess.run([program, "replay", conf, "--workers", str(workers)], stdin=given, stdout=subprocess.PIPE)
-        taken = time.monotonic() - begin
-    if done.returncode != 0:
-        sys.exit("status %d" % done.returncode)
-    return taken, done.stdout
-
-
-def best(program, conf, replay, workers):
-    return min(run(program, conf, replay, workers)[0] for _ in range(5))
-
-
-def instructions(program, conf, replay):
-    with tempfile.NamedTemporaryFile() as out, open(replay, "rb") as given:
-        done = subprocess.run(["valgrind", "--tool=callgrind", "--callgrind-out-file=" + out.name, program, "replay", conf],
-                              stdin=given, stdout=subprocess.DEVNULL, stderr=subprocess.PIPE)
-    return int(done.stderr.decode().split("Collected :")[1].split()[0])
+    (begin, before), _, (end, after) = uptime(), time.sleep(1), uptime()
+    return (after - before) / (end - begin)
 
 
 def main():
-    program = (usage.words(__doc__, usage.is_program, 1) or [PROGRAM])[0]
-    failed = False
+    words = usage.words(__doc__, lambda word: word == "--quick" or usage.is_program(word), 2)
+    replays.PROGRAM = next((word for word in words if word != "--quick"), replays.PROGRAM)
+    idle, found = idle_cores(), []
+    print("| Transactions | in a burst | thousands a second, 1 worker | times as many, 2 | 4 |\n|---|---|---|---|---|")
     with tempfile.TemporaryDirectory() as folder:
-        conf = config(folder)
-        path = os.path.join(folder, "replay")
-        for kind, made, count in (("typical", typical, 20_480), ("audits of 64 members", audits, 2_048), ("Locals of 8,000 bytes", large, 4_096)):
-            before, bodies = made(count)
-            pathlib.Path(path).write_bytes(before)
-            nothing = {workers: best(program, conf, path, workers) for workers in WORKERS}
-            base = instructions(program, conf, path)
-            print("%s, %d transactions: transactions a second" % (kind, count))
-            pays, rates = {}, {}
-            for size in SIZES:
-                pathlib.Path(path).write_bytes(before + bursts(bodies, size))
-                wanted = run(program, conf, path, 1)[1]
-                line = []
-                for workers in WORKERS:
-                    if workers > 1 and run(program, conf, path, workers)[1] != wanted:
-                        print("  bursts of %d, %d workers: other answers" % (size, workers))
-                        failed = True
-                    rates[size, workers] = count / max(best(program, conf, path, workers) - nothing[workers], 1e-9)
-                    line.append("%d with %d" % (rates[size, workers], workers))
-                    if workers > 1 and rates[size, workers] > 1.1 * rates[size, 1]:
-                        pays.setdefault(workers, size)
-                pathlib.Path(path).write_bytes(before + bursts(bodies[:512], size))
-                each = (instructions(program, conf, path) - base) / 512
-                print("  bursts of %3d: %s; %d instructions each with 1" % (size, ", ".join(line), each), flush=True)
-            for workers in WORKERS[1:]:
-                print("  %d workers pay %s" % (workers, "from bursts of %d on" % pays[workers] if workers in pays else "nowhere"))
-            failed |= rates[256, 1] < rates[1, 1] / 2
-    sys.exit(1 if failed else 0)
+        conf = replays.config(folder, 1_024)
+        for kind in KINDS:
+            for mixed in (False, True):
+                for size in (kind.size,) if "--quick" in words else SIZES:
+                    found += faults(conf, kind, mixed, size, idle > 3.8 and size == kind.size and not mixed)
+    print("".join(f"{line}\n" for line in found) + f"{idle:.1f} cores were idle", file=sys.stderr)
+    return 1 if found else 0
 
 
-main()
+if __name__ == "__main__":
+    sys.exit(main())

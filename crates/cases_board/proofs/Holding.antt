@@ -5,13 +5,13 @@ use Rattle.std.specs.List.{list_any, list_all}
 use Rattle.std.proofs.lemmas.List.{length-set}
 use Rattle.std.proofs.lemmas.Option.{slice_get_within}
 use Rattle.gw_base.proofs.Booleans.{neither, both as each_of}
-use Rattle.gw_board.specs.Boards.{Seen, Handed, HasOpen, Opens, core_of, asked_of, job_of, outcome_of, begun_board, with_result, unchanged, is_closed, AllClosed, reply_of, reply_at}
+use Rattle.gw_board.specs.Boards.{Seen, Handed, HasOpen, Opens, core_of, requested_in, job_of, outcome_of, begun_board, with_result, unchanged, is_closed, AllClosed, reply_of, reply_at}
 use Rattle.gw_board.specs.Core.{Standing, Pending, Opened, Closed, Place, pending, open_with, closed_with}
 use Rattle.gw_board.specs.OpenJobs.{IsSameBurst}
 use Rattle.gw_board.specs.Results.{is_open, is_open_at, NothingIsOpen}
-use Rattle.gw_board.specs.declared.asked.Asked.{Asked}
-use Rattle.gw_board.specs.declared.manner.Manner.{Manner}
-use Rattle.gw_board.proofs.SeatFacts.{length-pending}
+use Rattle.gw_board.specs.declared.requested.BurstRequest.{BurstRequest}
+use Rattle.gw_board.specs.declared.profile.Profile.{Profile}
+use Rattle.gw_board.proofs.BoardEntryFacts.{length-pending}
 use Rattle.gw_table.specs.Stored.{Stored}
 use Rattle.cases_board.specs.Held.{IsHeld, AreHeld, job_in}
 
@@ -46,14 +46,14 @@ module _ {X : Type 0} where
 
 -- ---- a board on which one place stands otherwise
 
-module _ (b c : Seen) (held : List (Option Handed)) (a : AreHeld b held) (i : ℕ) (x : Option Handed) (manner : c.manner ≡ b.manner) (count : length c.places ≡ length b.places) (elsewhere : (j : ℕ) → nat_eq j i ≡ false → slice_get c.places j ≡ slice_get b.places j) (here : IsHeld c i (Some x)) (past : length held ≤ i → IsHeld c i None) where
+module _ (b c : Seen) (held : List (Option Handed)) (a : AreHeld b held) (i : ℕ) (x : Option Handed) (profile : c.profile ≡ b.profile) (count : length c.places ≡ length b.places) (elsewhere : (j : ℕ) → nat_eq j i ≡ false → slice_get c.places j ≡ slice_get b.places j) (here : IsHeld c i (Some x)) (past : length held ≤ i → IsHeld c i None) where
   still : (j : ℕ) → nat_eq j i ≡ false → (o : Option (Option Handed)) → IsHeld b j o → IsHeld c j o
   still j e None h = ap is_open_at (elsewhere j e) ∙ h
   still j e (Some None) h = ap is_open_at (elsewhere j e) ∙ h
   still j e (Some (Some g)) h = (
     h.0,
     record {
-      manner = h.1.manner ∙ sym manner;
+      profile = h.1.profile ∙ sym profile;
       stands = ap (slice_get c.places) h.0 ∙ elsewhere j e ∙ ap (slice_get b.places) (sym h.0) ∙ h.1.stands;
     },
   )
@@ -68,34 +68,34 @@ module _ (b c : Seen) (held : List (Option Handed)) (a : AreHeld b held) (i : �
 -- ---- a place is opened
 
 module _ (b c : Seen) (i : ℕ) (h : Handed) (o : Opens b i h c) (held : List (Option Handed)) (a : AreHeld b held) where
-  places_are : c.places ≡ slice_set b.places i (open_with h.asked (job_of h))
+  places_are : c.places ≡ slice_set b.places i (open_with h.requested (job_of h))
   places_are =
       ap (λ (x : Seen). x.places) o.board
-      ∙ ap (λ (x : Handed). slice_set b.places i (open_with h.asked (record { keys = h.keys; part = x.part; result = None }))) (sym o.job)
+      ∙ ap (λ (x : Handed). slice_set b.places i (open_with h.requested (record { keys = h.keys; part = x.part; result = None }))) (sym o.job)
 
   place_is : h.place ≡ i
   place_is = ap (λ (x : Handed). x.place) o.job
 
-  manner_is : c.manner ≡ b.manner
-  manner_is = ap (λ (x : Seen). x.manner) o.board
+  manner_is : c.profile ≡ b.profile
+  manner_is = ap (λ (x : Seen). x.profile) o.board
 
   pub opened_inside : i < length held
   opened_inside =
-      let inside : i < length b.places = slice_get_within b.places i (pending h.asked) o.may.pends in
+      let inside : i < length b.places = slice_get_within b.places i (pending h.requested) o.may.pends in
       let count = a.count in
       omega arith
 
   now_open : HasOpen c h
   now_open = record {
-    manner = ap (λ (x : Handed). x.manner) o.job ∙ sym manner_is;
-    stands = ap (slice_get c.places) place_is ∙ ap (λ (l : List Place). slice_get l i) places_are ∙ set_here b.places i (pending h.asked) (open_with h.asked (job_of h)) o.may.pends;
+    profile = ap (λ (x : Handed). x.profile) o.job ∙ sym manner_is;
+    stands = ap (slice_get c.places) place_is ∙ ap (λ (l : List Place). slice_get l i) places_are ∙ set_here b.places i (pending h.requested) (open_with h.requested (job_of h)) o.may.pends;
   }
 
   pub held_opened : AreHeld c (slice_set held i (Some h))
   held_opened =
       moved b c held a i (Some h) manner_is
-      (ap length places_are ∙ length-set b.places i (open_with h.asked (job_of h)))
-      (λ j e. ap (λ (l : List Place). slice_get l j) places_are ∙ set_elsewhere b.places i j (open_with h.asked (job_of h)) e)
+      (ap length places_are ∙ length-set b.places i (open_with h.requested (job_of h)))
+      (λ j e. ap (λ (l : List Place). slice_get l j) places_are ∙ set_elsewhere b.places i j (open_with h.requested (job_of h)) e)
       (place_is, now_open)
       (λ l. absurd (let inside : i < length held = opened_inside in omega arith))
 
@@ -127,23 +127,23 @@ module _ (b c : Seen) (i : ℕ) (h : Handed) (held : List (Option Handed)) (a : 
   kept : (h.place ≡ i) × HasOpen b h
   kept = taken_open b i h (slice_get held i) e (a.each i)
 
-  closed_as : (new : Place) → c.manner ≡ b.manner → c.places ≡ slice_set b.places h.place new → is_open new.standing ≡ false → AreHeld c (slice_set held i None)
-  closed_as new manner places off =
+  closed_as : (new : Place) → c.profile ≡ b.profile → c.places ≡ slice_set b.places h.place new → is_open new.standing ≡ false → AreHeld c (slice_set held i None)
+  closed_as new profile places off =
       let here : c.places ≡ slice_set b.places i new = places ∙ ap (λ (n : ℕ). slice_set b.places n new) kept.0 in
-      let stands : slice_get b.places i ≡ Some (open_with h.asked (job_of h)) = ap (slice_get b.places) (sym kept.0) ∙ kept.1.stands in
+      let stands : slice_get b.places i ≡ Some (open_with h.requested (job_of h)) = ap (slice_get b.places) (sym kept.0) ∙ kept.1.stands in
       let none : is_open_at (slice_get c.places i) ≡ false =
       ap (λ (l : List Place). is_open_at (slice_get l i)) here
-      ∙ ap is_open_at (set_here b.places i (open_with h.asked (job_of h)) new stands) ∙ off in
-      moved b c held a i None manner
+      ∙ ap is_open_at (set_here b.places i (open_with h.requested (job_of h)) new stands) ∙ off in
+      moved b c held a i None profile
       (ap length here ∙ length-set b.places i new)
       (λ j k. ap (λ (l : List Place). slice_get l j) here ∙ set_elsewhere b.places i j new k)
       none (λ l. none)
 
   pub held_closed : c ≡ with_result b h → AreHeld c (slice_set held i None)
-  held_closed is = closed_as (closed_with h.asked (outcome_of h).answer) (ap (λ (x : Seen). x.manner) is) (ap (λ (x : Seen). x.places) is) refl
+  held_closed is = closed_as (closed_with h.requested (outcome_of h).answer) (ap (λ (x : Seen). x.profile) is) (ap (λ (x : Seen). x.places) is) refl
 
   pub held_returned : c ≡ unchanged b h → AreHeld c (slice_set held i None)
-  held_returned is = closed_as (pending h.asked) (ap (λ (x : Seen). x.manner) is) (ap (λ (x : Seen). x.places) is) refl
+  held_returned is = closed_as (pending h.requested) (ap (λ (x : Seen). x.profile) is) (ap (λ (x : Seen). x.places) is) refl
 
 -- ---- no job is kept
 
@@ -169,9 +169,9 @@ nothing_open b held a h = each_shut b.places (λ i. shut b i (slice_get held i) 
 
 -- ---- a place is carried out alone, while no job is kept
 
-length-asked : (places : List Place) → length (asked_of places) ≡ length places
-length-asked [] = refl
-length-asked (p ∷ ps) = ap suc (length-asked ps)
+length-requested : (places : List Place) → length (requested_in places) ≡ length places
+length-requested [] = refl
+length-requested (p ∷ ps) = ap suc (length-requested ps)
 
 shut_at : (places : List Place) (i : ℕ) → list_any (λ p. is_open p.standing) places ≡ false → is_open_at (slice_get places i) ≡ false
 shut_at [] i h = refl
@@ -182,7 +182,7 @@ shut_at (p ∷ ps) (suc i) h = shut_at ps i (neither (is_open p.standing) (list_
 pub held_alone : (b c : Seen) (held : List (Option Handed)) → AreHeld b held → list_all is_none held ≡ true → NothingIsOpen (core_of c) → IsSameBurst b c → AreHeld c held
 held_alone b c held a none shut_all same =
     record {
-      count = a.count ∙ sym (length-asked b.places) ∙ ap length (sym same.asked) ∙ length-asked c.places;
+      count = a.count ∙ sym (length-requested b.places) ∙ ap length (sym same.requested) ∙ length-requested c.places;
       each = λ i. at i (slice_get held i) (none_at held i none) (shut_at c.places i shut_all);
     }
   where
@@ -193,16 +193,16 @@ held_alone b c held a none shut_all same =
 
 -- ---- at the start
 
-pending_shut : (asked : List Asked) (i : ℕ) → is_open_at (slice_get (map pending asked) i) ≡ false
+pending_shut : (requested : List BurstRequest) (i : ℕ) → is_open_at (slice_get (map pending requested) i) ≡ false
 pending_shut [] i = refl
 pending_shut (x ∷ xs) zero = refl
 pending_shut (x ∷ xs) (suc i) = pending_shut xs i
 
-pub held_begun : (manner : Manner) (asked : List Asked) (s : Stored) (b : Seen) (held : List (Option Handed)) → b ≡ begun_board manner asked s → list_all is_none held ≡ true → length held ≡ length asked → AreHeld b held
-held_begun manner asked s b held is none count =
+pub held_begun : (profile : Profile) (requested : List BurstRequest) (s : Stored) (b : Seen) (held : List (Option Handed)) → b ≡ begun_board profile requested s → list_all is_none held ≡ true → length held ≡ length requested → AreHeld b held
+held_begun profile requested s b held is none count =
     record {
-      count = count ∙ sym (length-pending asked) ∙ sym (ap (λ (x : Seen). length x.places) is);
-      each = λ i. at i (slice_get held i) (none_at held i none) (ap (λ (x : Seen). is_open_at (slice_get x.places i)) is ∙ pending_shut asked i);
+      count = count ∙ sym (length-pending requested) ∙ sym (ap (λ (x : Seen). length x.places) is);
+      each = λ i. at i (slice_get held i) (none_at held i none) (ap (λ (x : Seen). is_open_at (slice_get x.places i)) is ∙ pending_shut requested i);
     }
   where
     at : (i : ℕ) (o : Option (Option Handed)) → job_in o ≡ None → is_open_at (slice_get b.places i) ≡ false → IsHeld b i o

@@ -2,15 +2,15 @@
 use Rattle.std.proofs.Common.{◌≡◌, ℕ, ◌+◌, ◌<◌, false, List, [], ◌∷◌, ◌++◌, map, length, get_or, take, Ok, Err, IfOk, refl, sym, ap, subst, ◌∙◌}
 use Rattle.std.specs.List.{AllZip, list_any}
 use Rattle.std.proofs.lemmas.List.{take_more}
-use Rattle.gw_board.specs.Boards.{Seen, Handed, core_of, asked_of, begun_board, outcome_of}
+use Rattle.gw_board.specs.Boards.{Seen, Handed, core_of, requested_in, begun_board, outcome_of}
 use Rattle.gw_board.specs.Carried.{carried}
 use Rattle.gw_board.specs.Core.{Place, pending}
 use Rattle.gw_board.specs.Jobs.{new_part}
 use Rattle.gw_board.specs.OpenJobs.{IsAnswer, IsSameBurst}
 use Rattle.gw_board.specs.Results.{is_open, NothingIsOpen, slots_of}
 use Rattle.gw_board.specs.Texts.{Text}
-use Rattle.gw_board.specs.declared.asked.Asked.{Asked}
-use Rattle.gw_board.specs.declared.manner.Manner.{Manner}
+use Rattle.gw_board.specs.declared.requested.BurstRequest.{BurstRequest}
+use Rattle.gw_board.specs.declared.profile.Profile.{Profile}
 use Rattle.gw_board.proofs.WaveJobs.{Reply}
 use Rattle.gw_reserve.specs.Owned.{paired}
 use Rattle.gw_table.specs.Maps.{Maps}
@@ -23,32 +23,32 @@ use Rattle.gw_tx.proofs.Unowned.{front_unused, paired_later_free, paired_whole}
 
 -- ---- tables stay well-formed
 
-pub stay_whole : (manner : Manner) (asked : List Asked) (m : Maps) → AreWellFormed manner.rules.members m → AreUnused m [] (slots_of asked) → AreWellFormed manner.rules.members (carried manner asked m).maps
-stay_whole manner [] m w u = w
-stay_whole manner (a ∷ more) m w u =
-    stay_whole manner more (paired_transaction manner.rules a.request (paired a.request a.owned) m).maps
-    (paired_whole manner.rules a.request a.owned m (front_unused m (owned a.owned.slots) (slots_of more) u) w)
-    (paired_later_free manner.rules a.request a.owned m (slots_of more) u)
+pub stay_whole : (profile : Profile) (requested : List BurstRequest) (m : Maps) → AreWellFormed profile.rules.members m → AreUnused m [] (slots_of requested) → AreWellFormed profile.rules.members (carried profile requested m).maps
+stay_whole profile [] m w u = w
+stay_whole profile (a ∷ more) m w u =
+    stay_whole profile more (paired_transaction profile.rules a.request (paired a.request a.owned) m).maps
+    (paired_whole profile.rules a.request a.owned m (front_unused m (owned a.owned.slots) (slots_of more) u) w)
+    (paired_later_free profile.rules a.request a.owned m (slots_of more) u)
 
 -- ---- a board from its start to its end
 
-pending_shut : (asked : List Asked) → list_any (λ (p : Place). is_open p.standing) (map pending asked) ≡ false
+pending_shut : (requested : List BurstRequest) → list_any (λ (p : Place). is_open p.standing) (map pending requested) ≡ false
 pending_shut [] = refl
 pending_shut (a ∷ more) = pending_shut more
 
-asked_pending : (asked : List Asked) → asked_of (map pending asked) ≡ asked
+asked_pending : (requested : List BurstRequest) → requested_in (map pending requested) ≡ requested
 asked_pending [] = refl
-asked_pending (a ∷ more) = ap (λ (l : List Asked). a ∷ l) (asked_pending more)
+asked_pending (a ∷ more) = ap (λ (l : List BurstRequest). a ∷ l) (asked_pending more)
 
-module _ (manner : Manner) (asked : List Asked) (s : Stored) (b : Seen) (begun : b ≡ begun_board manner asked s) where
+module _ (profile : Profile) (requested : List BurstRequest) (s : Stored) (b : Seen) (begun : b ≡ begun_board profile requested s) where
   pub none_yet : NothingIsOpen (core_of b)
-  none_yet = ap (λ (x : Seen). list_any (λ (p : Place). is_open p.standing) x.places) begun ∙ pending_shut asked
+  none_yet = ap (λ (x : Seen). list_any (λ (p : Place). is_open p.standing) x.places) begun ∙ pending_shut requested
 
   -- whatever was opened and closed since
-  pub comes_to : (d : Seen) → IsSameBurst b d → (carried d.manner (asked_of d.places) (maps_of d.start)).maps ≡ (carried manner asked (maps_of s)).maps
+  pub comes_to : (d : Seen) → IsSameBurst b d → (carried d.profile (requested_in d.places) (maps_of d.start)).maps ≡ (carried profile requested (maps_of s)).maps
   comes_to d same =
-      let manners : d.manner ≡ manner = same.manner ∙ ap (λ (x : Seen). x.manner) begun in
-      let these : asked_of d.places ≡ asked = same.asked ∙ ap (λ (x : Seen). asked_of x.places) begun ∙ asked_pending asked in
+      let manners : d.profile ≡ profile = same.profile ∙ ap (λ (x : Seen). x.profile) begun in
+      let these : requested_in d.places ≡ requested = same.requested ∙ ap (λ (x : Seen). requested_in x.places) begun ∙ asked_pending requested in
       let start : d.start ≡ s = same.start ∙ ap (λ (x : Seen). x.start) begun in
       λ i. (carried (manners i) (these i) (maps_of (start i))).maps
 

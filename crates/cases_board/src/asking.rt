@@ -1,4 +1,4 @@
-//! What a burst asks, with what each of its requests owns.
+//! What a burst requests, with what each of its requests owns.
 
 ghost use Rattle.std.specs.Prelude.{◌≡◌, ◌≤◌, ◌++◌, [], IfOk, OnOk};
 ghost use Rattle.gw_table.specs.Stored.{maps_of};
@@ -8,7 +8,7 @@ ghost use Rattle.gw_board.specs.Results.{slots_of};
 
 use bumpalo::Bump;
 use gw_base::NoMemory;
-use gw_board::{Asked, Lent};
+use gw_board::{BurstRequest, RequestRef};
 use gw_msg::{Item, Message, Sender};
 use gw_reserve::{Cursors, Reservation};
 use gw_table::Tables;
@@ -26,24 +26,24 @@ pub struct Limits {
 }
 
 /// The request of an item, if it is one, goes last, with the next identifiers that are free.
-fn add_asked<'h, 'a>(
+fn add_requested<'h, 'a>(
     alloc: Global,
     tables: &Tables,
     mid: &Sender<'a>,
     item: &'h Item<'a>,
     reservation: &mut Reservation,
-    asked: &mut Vec<Asked<'h, 'a>>,
+    requested: &mut Vec<BurstRequest<'h, 'a>>,
 ) -> Result<(), NoMemory>
-    ensures { OnOk result (slots_of asked.new.items ++ slots_left (maps_of tables.now) reservation.new ≡ slots_of asked.old.items ++ slots_left (maps_of tables.now) reservation.old) }
+    ensures { OnOk result (slots_of requested.new.items ++ slots_left (maps_of tables.now) reservation.new ≡ slots_of requested.old.items ++ slots_left (maps_of tables.now) reservation.old) }
 {
-    let Item::Request(passage) = item else {
+    let Item::Request(source) = item else {
         return Ok(());
     };
-    let request = Lent::new(passage);
+    let request = RequestRef::new(source);
     let scratch = Bump::new(alloc);
     let tree = request.tree(&scratch)?;
     let owned = reservation.own(alloc, tables, tree)?;
-    asked.push(Asked {
+    requested.push(BurstRequest {
         mid: mid.again(),
         request: request.again(),
         owned,
@@ -51,30 +51,31 @@ fn add_asked<'h, 'a>(
     Ok(())
 }
 
-/// The requests of a message, each with what it owns in the tables as they are, from the first free context and slot on.
-pub fn asks_in<'h, 'a>(
+/// The requests of a message, each with what it owns in the tables as they are, from the first free context and slot
+/// on.
+pub fn requests_in<'h, 'a>(
     alloc: Global,
     tables: &Tables,
     limits: Limits,
     message: &'h Message<'a>,
-) -> Result<Vec<Asked<'h, 'a>>, NoMemory>
-    ensures { IfOk result (λ asked. AreUnused (maps_of tables.now) [] (slots_of asked.items)) }
+) -> Result<Vec<BurstRequest<'h, 'a>>, NoMemory>
+    ensures { IfOk result (λ requested. AreUnused (maps_of tables.now) [] (slots_of requested.items)) }
 {
     let cursors = Cursors {
         context: 0,
         slot: 0,
     };
     let mut reservation = Reservation::new(limits.contexts, limits.slots, &cursors);
-    let mut asked = Vec::new(alloc);
+    let mut requested = Vec::new(alloc);
     for item in message.items.as_slice() {
-        add_asked(
+        add_requested(
             alloc,
             tables,
             &message.mid,
             item,
             &mut reservation,
-            &mut asked,
+            &mut requested,
         )?;
     }
-    Ok(asked)
+    Ok(requested)
 }

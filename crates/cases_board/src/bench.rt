@@ -6,25 +6,25 @@ ghost use Rattle.gw_table.specs.Reserved.{is_reserved};
 ghost use Rattle.gw_table.specs.Stored.{maps_of, NoneIsOut};
 ghost use Rattle.gw_table.specs.WellFormed.{AreWellFormed};
 
-use crate::asking::{Limits, asks_in};
+use crate::asking::{Limits, requests_in};
 use crate::play::play;
-use crate::tell::write_keys;
 use crate::tree::write_tree;
-use crate::waves::carried_out;
+use crate::waves::executed_text;
+use crate::write_step::write_keys;
 use bumpalo::Bump;
 use cases_text::{CaseFault, Page};
 use gw_base::{Config, Rules, TermName};
-use gw_board::Manner;
+use gw_board::Profile;
 use gw_foot::footprint;
 use gw_msg::read_message;
 use gw_table::{Tables, is_reserved};
 use std::alloc::Global;
 use std::marker::Model;
 
-/// How a gateway carries requests out, and its tables, which are well-formed and of which nothing is out.
+/// How a gateway executes requests, and its tables, which are well-formed and of which nothing is out.
 #[derive(Drop)]
 pub struct Bench {
-    manner: Manner,
+    profile: Profile,
     limits: Limits,
     tables: Tables,
 }
@@ -40,7 +40,7 @@ impl Model for Bench {
 
     ghost view = { λ a. maps_of a.tables };
 
-    ghost invariant = { λ a. AreWellFormed a.manner.rules.members (maps_of a.tables) × NoneIsOut a.tables };
+    ghost invariant = { λ a. AreWellFormed a.profile.rules.members (maps_of a.tables) × NoneIsOut a.tables };
 }
 
 /// Whether a name is the gateway's own to give.
@@ -61,46 +61,46 @@ fn limits_of(config: &Config) -> Option<Limits> {
     })
 }
 
-/// These tables after the requests of a message, carried out in waves. The caller knows that they are well-formed, and that nothing is
-/// out.
+/// These tables after the requests of a message, executed in waves. The caller knows that they are well-formed, and
+/// that nothing is out.
 fn carried_in(
     alloc: Global,
-    manner: &Manner,
+    profile: &Profile,
     limits: Limits,
     tables: Tables,
     text: &[u8],
 ) -> Result<Bench, CaseFault>
-    requires whole { AreWellFormed manner.now.rules.members (maps_of tables) }
+    requires whole { AreWellFormed profile.now.rules.members (maps_of tables) }
     requires here { NoneIsOut tables }
 {
     let bump = Bump::new(alloc);
     let Ok(message) = read_message(&bump, text) else {
         return Err(CaseFault::Form);
     };
-    let Ok(asked) = asks_in(alloc, &tables, limits, &message) else {
+    let Ok(requested) = requests_in(alloc, &tables, limits, &message) else {
         return Err(CaseFault::NoMemory);
     };
-    let Ok(tables) = carried_out(alloc, tables, *manner, &asked) else {
+    let Ok(tables) = executed_text(alloc, tables, *profile, &requested) else {
         return Err(CaseFault::NoMemory);
     };
     Ok(Bench {
-        manner: *manner,
+        profile: *profile,
         limits,
         tables,
     })
 }
 
-/// Takes steps with the requests of a message, on a board of these tables. The caller knows that they are well-formed, and that nothing
-/// is out.
+/// Takes steps with the requests of a message, on a board of these tables. The caller knows that they are well-formed,
+/// and that nothing is out.
 fn play_in(
-    manner: Manner,
+    profile: Profile,
     limits: Limits,
     tables: Tables,
     text: &[u8],
     steps: &[u8],
     out: &mut Page,
 ) -> Result<(), CaseFault>
-    requires whole { AreWellFormed manner.rules.members (maps_of tables) }
+    requires whole { AreWellFormed profile.rules.members (maps_of tables) }
     requires here { NoneIsOut tables }
 {
     let alloc = out.alloc();
@@ -108,22 +108,22 @@ fn play_in(
     let Ok(message) = read_message(&bump, text) else {
         return Err(CaseFault::Form);
     };
-    let Ok(asked) = asks_in(alloc, &tables, limits, &message) else {
+    let Ok(requested) = requests_in(alloc, &tables, limits, &message) else {
         return Err(CaseFault::NoMemory);
     };
-    play(tables, manner, &asked, steps, out)
+    play(tables, profile, &requested, steps, out)
 }
 
-/// Executes the only request of a message on these tables, and writes its reply. The caller knows that they are well-formed, and that
-/// nothing is out.
+/// Executes the only request of a message on these tables, and writes its reply. The caller knows that they are
+/// well-formed, and that nothing is out.
 fn write_only(
-    manner: &Manner,
+    profile: &Profile,
     limits: Limits,
     tables: Tables,
     text: &[u8],
     out: &mut Page,
 ) -> Result<(), CaseFault>
-    requires whole { AreWellFormed manner.now.rules.members (maps_of tables) }
+    requires whole { AreWellFormed profile.now.rules.members (maps_of tables) }
     requires here { NoneIsOut tables }
 {
     let alloc = out.alloc();
@@ -131,16 +131,16 @@ fn write_only(
     let Ok(message) = read_message(&bump, text) else {
         return Err(CaseFault::Form);
     };
-    let Ok(asked) = asks_in(alloc, &tables, limits, &message) else {
+    let Ok(requested) = requests_in(alloc, &tables, limits, &message) else {
         return Err(CaseFault::NoMemory);
     };
-    let [one] = asked.as_slice() else {
+    let [one] = requested.as_slice() else {
         return Err(CaseFault::Form);
     };
     let Ok(request) = one.request.tree(&bump) else {
         return Err(CaseFault::NoMemory);
     };
-    write_tree(&manner.rules, tables, request, &one.owned, out)
+    write_tree(&profile.rules, tables, request, &one.owned, out)
 }
 
 impl Bench {
@@ -148,7 +148,7 @@ impl Bench {
     ///
     /// # Errors
     ///
-    /// `Form` where the configuration does not keep the limits; `NoMemory` where a growth was refused.
+    /// `Form` where the configuration does not keep the limits; `NoMemory` where an allocation was refused.
     pub fn new(alloc: Global, config: &Config) -> Result<Bench, CaseFault> {
         if config.members > 64 || has_reserved(config.terms.as_slice()) {
             return Err(CaseFault::Form);
@@ -162,7 +162,7 @@ impl Bench {
             members: config.members as u8,
         };
         Ok(Bench {
-            manner: Manner {
+            profile: Profile {
                 rules,
                 mid: config.mid,
             },
@@ -171,53 +171,53 @@ impl Bench {
         })
     }
 
-    /// The tables after the requests of a message, carried out in waves.
+    /// The tables after the requests of a message, executed in waves.
     ///
     /// # Errors
     ///
-    /// `Form` where the text is no message; `NoMemory` where a growth was refused.
+    /// `Form` where the text is no message; `NoMemory` where an allocation was refused.
     pub fn after(self, alloc: Global, text: &[u8]) -> Result<Bench, CaseFault> {
         let Bench {
-            manner,
+            profile,
             limits,
             tables,
         } = self;
-        carried_in(alloc, &manner, limits, tables, text)
+        carried_in(alloc, &profile, limits, tables, text)
     }
 
     /// Takes steps with the requests of a message, on a board of the tables, which end with it.
     ///
     /// # Errors
     ///
-    /// `Form` where the text is no message, and what is wrong with a step; `NoMemory` where a growth was refused.
+    /// `Form` where the text is no message, and what is wrong with a step; `NoMemory` where an allocation was refused.
     pub fn play(self, text: &[u8], steps: &[u8], out: &mut Page) -> Result<(), CaseFault> {
         let Bench {
-            manner,
+            profile,
             limits,
             tables,
         } = self;
-        play_in(manner, limits, tables, text, steps, out)
+        play_in(profile, limits, tables, text, steps, out)
     }
 
     /// Executes the only request of a message by itself on the tables, which end with it, and writes its reply.
     ///
     /// # Errors
     ///
-    /// `Form` where the text is no message of one request; `NoMemory` where a growth was refused.
+    /// `Form` where the text is no message of one request; `NoMemory` where an allocation was refused.
     pub fn write_tree(self, text: &[u8], out: &mut Page) -> Result<(), CaseFault> {
         let Bench {
-            manner,
+            profile,
             limits,
             tables,
         } = self;
-        write_only(&manner, limits, tables, text, out)
+        write_only(&profile, limits, tables, text, out)
     }
 
     /// Writes the footprint of a request of a message.
     ///
     /// # Errors
     ///
-    /// `Form` where the text is no message, or has no such request; `NoMemory` where a growth was refused.
+    /// `Form` where the text is no message, or has no such request; `NoMemory` where an allocation was refused.
     pub fn write_footprint(
         &self,
         text: &[u8],
@@ -229,10 +229,10 @@ impl Bench {
         let Ok(message) = read_message(&bump, text) else {
             return Err(CaseFault::Form);
         };
-        let Ok(asked) = asks_in(alloc, &self.tables, self.limits, &message) else {
+        let Ok(requested) = requests_in(alloc, &self.tables, self.limits, &message) else {
             return Err(CaseFault::NoMemory);
         };
-        let one = asked.get(place).ok_or(CaseFault::Form)?;
+        let one = requested.get(place).ok_or(CaseFault::Form)?;
         let Ok(tree) = one.request.tree(&bump) else {
             return Err(CaseFault::NoMemory);
         };

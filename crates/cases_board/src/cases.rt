@@ -11,8 +11,8 @@ const FRONT: &[u8] = b"MEGACO/1 [10.0.0.9]:2944";
 /// The most times that a transaction is put into a burst by one line.
 const MOST_TIMES: u32 = 4_096;
 
-/// Tables as a case has made them: a configuration, and the transactions that were carried out since, in order. The tables themselves
-/// are made anew for each line.
+/// Tables as a case has made them: a configuration, and the transactions that were executed since, in order. The tables
+/// themselves are made anew for each line.
 #[derive(Drop)]
 struct Made {
     config: Config,
@@ -45,7 +45,7 @@ fn message_of(alloc: Global, transactions: &[u8]) -> Result<Page, CaseFault> {
 }
 
 impl Made {
-    /// The tables: as they were configured, with the transactions carried out.
+    /// The tables: as they were configured, with the transactions executed.
     fn bench(&self, alloc: Global) -> Result<Bench, CaseFault> {
         let mut bench = Bench::new(alloc, &self.config)?;
         for given in &self.given {
@@ -65,7 +65,7 @@ impl Cases {
         }
     }
 
-    /// Other tables take the place of these. A function of its own, since these are let go here.
+    /// Other tables take the place of these. A function of its own, since these are dropped here.
     fn put(&mut self, made: Made) {
         self.made = Some(made);
     }
@@ -89,7 +89,7 @@ impl Cases {
         }
     }
 
-    /// Keeps transactions that prepare a case, once they are carried out.
+    /// Keeps transactions that prepare a case, once they are executed.
     fn prepare(&mut self, alloc: Global, transactions: &[u8]) -> Result<(), CaseFault> {
         let text = message_of(alloc, transactions)?;
         let _tables = self.bench(alloc)?.after(alloc, text.whole()?)?;
@@ -107,8 +107,8 @@ impl Cases {
     }
 
     /// A transaction comes so many times more.
-    fn repeat(&mut self, asked: &[u8]) -> Result<(), CaseFault> {
-        let (times, transactions) = split_word(asked);
+    fn repeat(&mut self, requested: &[u8]) -> Result<(), CaseFault> {
+        let (times, transactions) = split_word(requested);
         match number_of(times) {
             Some(times) if times <= MOST_TIMES => put_times(&mut self.burst, transactions, times),
             _ => Err(CaseFault::Form),
@@ -133,16 +133,16 @@ impl Cases {
 }
 
 impl CaseRunner for Cases {
-    fn answer(&mut self, call: &str, asked: &[u8], out: &mut Page) -> Result<(), CaseFault> {
+    fn answer(&mut self, call: &str, requested: &[u8], out: &mut Page) -> Result<(), CaseFault> {
         match call {
-            "new" => self.make(out.alloc(), asked),
-            "given" => self.prepare(out.alloc(), asked),
-            "burst" => self.begin(asked),
-            "and" => put_times(&mut self.burst, asked, 1),
-            "times" => self.repeat(asked),
-            "footprint" => self.write_footprint(asked, out),
+            "new" => self.make(out.alloc(), requested),
+            "given" => self.prepare(out.alloc(), requested),
+            "burst" => self.begin(requested),
+            "and" => put_times(&mut self.burst, requested, 1),
+            "times" => self.repeat(requested),
+            "footprint" => self.write_footprint(requested, out),
             "tree" => self.write_tree(out),
-            "steps" => self.take(asked, out),
+            "steps" => self.take(requested, out),
             _ => Err(CaseFault::Call),
         }
     }

@@ -7,9 +7,9 @@ mod cases;
 mod held;
 mod play;
 mod steps;
-mod tell;
 mod tree;
 mod waves;
+mod write_step;
 
 use cases::Cases;
 use cases_text::transcript;

@@ -9,9 +9,9 @@ ghost use Rattle.cases_board.specs.Held.{AreHeld, MayEnd};
 
 use crate::held::{End, Held, none_held};
 use crate::steps::{end_by, take};
-use crate::tell::{write_replies, write_tables};
+use crate::write_step::{write_replies, write_tables};
 use cases_text::{CaseFault, Page, as_text, split_at_byte};
-use gw_board::{Asked, Board, BoardFault, Manner};
+use gw_board::{Board, BoardFault, BurstRequest, Profile};
 use gw_table::Tables;
 
 /// A text without the space that it begins with.
@@ -19,7 +19,7 @@ fn without_space(text: &[u8]) -> &[u8] {
     text.strip_prefix(b" ").unwrap_or(text)
 }
 
-/// Takes the steps, which have commas between them, up to one that ends the board, and tells what each answers.
+/// Takes the steps, which have commas between them, up to one that ends the board, and writes what each answers.
 fn walk<'b, 'h, 'a>(
     board: &mut Board<'b, 'h, 'a>,
     held: &mut Held<'b, 'h, 'a>,
@@ -30,7 +30,7 @@ fn walk<'b, 'h, 'a>(
     ensures { IfOk result (MayEnd board.new) }
 {
     let mut rest = steps;
-    // Each step takes a byte at least.
+    // Each step takes one byte or more.
     for _step in steps {
         if rest.is_empty() {
             return Ok(End::Left);
@@ -48,24 +48,24 @@ fn walk<'b, 'h, 'a>(
     Ok(End::Left)
 }
 
-/// Puts a burst on a board of these tables, takes the steps, and tells what each answers, and the tables at its end. The caller knows
-/// that the tables are well-formed, that nothing is out, and that what the requests own is unused.
+/// Puts a burst on a board of these tables, takes the steps, and writes what each answers, and the tables at its end.
+/// The caller knows that the tables are well-formed, that nothing is out, and that what the requests own is unused.
 pub fn play(
     tables: Tables,
-    manner: Manner,
-    asked: &[Asked<'_, '_>],
+    profile: Profile,
+    requested: &[BurstRequest<'_, '_>],
     steps: &[u8],
     out: &mut Page,
 ) -> Result<(), CaseFault>
-    requires whole { AreWellFormed manner.rules.members (maps_of tables) }
+    requires whole { AreWellFormed profile.rules.members (maps_of tables) }
     requires here { NoneIsOut tables }
-    requires unused { AreUnused (maps_of tables) [] (slots_of asked.now) }
+    requires unused { AreUnused (maps_of tables) [] (slots_of requested.now) }
 {
-    let mut board = match Board::new(out.alloc(), tables, manner, asked) {
+    let mut board = match Board::new(out.alloc(), tables, profile, requested) {
         Ok(board) => board,
         Err(BoardFault::NoMemory(_)) => return Err(CaseFault::NoMemory),
     };
-    let Ok(mut held) = none_held(out.alloc(), asked.len()) else {
+    let Ok(mut held) = none_held(out.alloc(), requested.len()) else {
         return Err(CaseFault::NoMemory);
     };
     match walk(&mut board, &mut held, steps, out)? {

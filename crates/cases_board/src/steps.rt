@@ -5,13 +5,13 @@ ghost use Rattle.gw_board.specs.Boards.{AllClosed};
 ghost use Rattle.cases_board.specs.Held.{AreHeld, MayEnd};
 
 use crate::held::{End, Held, hold, is_none_held, job_at, taken};
-use crate::tell::{write_places, write_runs};
+use crate::write_step::{write_places, write_runs};
 use cases_text::{CaseFault, Page, as_text, number_of, split_word};
 use gw_base::NoMemory;
 use gw_board::{Board, Done, Job, OpenFault, carry};
 use std::alloc::Global;
 
-/// What a step is told that a caller may not take.
+/// The answer to a step that a caller may not take.
 const NOT_ALLOWED: &[u8] = b"not allowed";
 
 /// Opens a place and keeps its job.
@@ -70,7 +70,7 @@ fn returned<'b, 'h, 'a>(
     true
 }
 
-/// Carries a place out by itself, if no job is open and it is the first that is not closed. Whether that is so.
+/// Executes a place by itself, if no job is open and it is the first that is not closed. Whether that is so.
 fn carried_alone(
     alloc: Global,
     board: &mut Board<'_, '_, '_>,
@@ -103,7 +103,7 @@ fn carry_wave<'b, 'h, 'a>(
     ensures { AreHeld board.new held.new.items }
 {
     for place in wave {
-        // While nothing else is open, a planned place is refused for want of memory alone.
+        // While nothing else is open, a planned place is refused for memory alone.
         let Ok(()) = opened(alloc, board, held, *place) else {
             return Err(CaseFault::NoMemory);
         };
@@ -116,7 +116,7 @@ fn carry_wave<'b, 'h, 'a>(
     Ok(())
 }
 
-/// Carries out what is pending, wave after wave: how many places each wave has.
+/// Executes what is pending, wave after wave: how many places each wave has.
 fn carry_in_waves<'b, 'h, 'a>(
     alloc: Global,
     board: &mut Board<'b, 'h, 'a>,
@@ -315,7 +315,7 @@ fn take_at<'b, 'h, 'a>(
     }
 }
 
-/// Takes a step and tells what it answers. `undo` and `finish` come here only where they are not allowed.
+/// Takes a step and writes what it answers. `undo` and `finish` come here only where they are not allowed.
 pub fn take<'b, 'h, 'a>(
     board: &mut Board<'b, 'h, 'a>,
     held: &mut Held<'b, 'h, 'a>,

@@ -9,7 +9,7 @@ use gw_base::{NoMemory, Rules};
 use gw_msg::Request;
 use gw_reply::{ActionReply, TxReply, Written};
 use gw_reserve::Owned;
-use gw_table::{Draft, Originals, Tables};
+use gw_table::{Draft, Tables, UndoLog};
 use gw_tx::transaction;
 
 /// Writes the text of an action reply.
@@ -37,12 +37,12 @@ fn write_replies(reply: &TxReply, out: &mut Page) -> Result<(), CaseFault> {
     Ok(())
 }
 
-/// Executes a request by itself on these tables, which end with it, and writes its reply. The caller knows that the tables are
-/// well-formed, that nothing is out, and that the slots that the request owns are unused.
+/// Executes a request by itself on these tables, which end with it, and writes its reply. The caller knows that the
+/// tables are well-formed, that nothing is out, and that the slots that the request owns are unused.
 ///
 /// # Errors
 ///
-/// `NoMemory` where a growth was refused.
+/// `NoMemory` where an allocation was refused.
 pub fn write_tree(
     rules: &Rules,
     tables: Tables,
@@ -55,7 +55,7 @@ pub fn write_tree(
     requires unused { AreFreeSlots (maps_of tables) owned.now.slots }
 {
     let alloc = out.alloc();
-    let mut draft = Draft::of_tables(tables, Originals::new(alloc));
+    let mut draft = Draft::of_tables(tables, UndoLog::new(alloc));
     let done: Result<TxReply, NoMemory> = transaction(alloc, rules, &mut draft, request, owned);
     match done {
         Ok(reply) => write_replies(&reply, out),

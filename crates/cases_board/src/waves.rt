@@ -1,4 +1,4 @@
-//! Requests that are carried out in waves, to prepare the tables of a case.
+//! Requests that are executed in waves, to prepare the tables of a case.
 
 ghost use Rattle.std.specs.Prelude.{◌≡◌, [], IfOk, OnOk, OnErr};
 ghost use Rattle.gw_table.specs.Stored.{maps_of, NoneIsOut};
@@ -9,14 +9,14 @@ ghost use Rattle.gw_board.specs.OpenJobs.{AreAnswers, IsAnswer, IsSameBurst};
 ghost use Rattle.gw_board.specs.Results.{NothingIsOpen, slots_of};
 
 use gw_base::{Items, NoMemory};
-use gw_board::{Asked, Board, BoardFault, Job, Manner, carry};
+use gw_board::{Board, BoardFault, BurstRequest, Job, Profile, carry};
 use gw_table::{Part, Tables};
 use std::alloc::Global;
 
 /// What a job came to.
 type Answer = Result<(Part, Items<u8>), NoMemory>;
 
-/// Carries a job out.
+/// Executes a job.
 fn answer_to(alloc: Global, job: &Job<'_, '_, '_>) -> Answer
     ensures { IsAnswer job.now result }
 {
@@ -40,33 +40,33 @@ fn carry_all(alloc: Global, board: &mut Board<'_, '_, '_>) -> Result<(), NoMemor
     ensures closed { OnOk result (AllClosed board.new.places) }
     ensures same { IsSameBurst board.old board.new }
 {
-    loop {
-        let jobs = board.open_wave(alloc)?;
-        if jobs.is_empty() {
-            return Ok(());
-        }
+    while let Some(first) = board.first_unclosed(0) {
+        let wave = board.plan_next(alloc, first)?;
+        let jobs = board.open_wave(alloc, wave)?;
         let Ok(answers) = answers_to(alloc, &jobs) else {
             board.close_unchanged(jobs);
             return Err(NoMemory);
         };
         board.close_wave(jobs, answers)?;
     }
+    Ok(())
 }
 
-/// The tables after these requests. The caller knows that they are well-formed, that nothing is out, and that what is owned is unused.
-pub fn carried_out(
+/// The tables after these requests. The caller knows that they are well-formed, that nothing is out, and that what is
+/// owned is unused.
+pub fn executed_text(
     alloc: Global,
     tables: Tables,
-    manner: Manner,
-    asked: &[Asked<'_, '_>],
+    profile: Profile,
+    requested: &[BurstRequest<'_, '_>],
 ) -> Result<Tables, NoMemory>
-    requires whole { AreWellFormed manner.rules.members (maps_of tables) }
+    requires whole { AreWellFormed profile.rules.members (maps_of tables) }
     requires here { NoneIsOut tables }
-    requires unused { AreUnused (maps_of tables) [] (slots_of asked.now) }
-    ensures whole { IfOk result (λ after. AreWellFormed manner.rules.members (maps_of after)) }
+    requires unused { AreUnused (maps_of tables) [] (slots_of requested.now) }
+    ensures whole { IfOk result (λ after. AreWellFormed profile.rules.members (maps_of after)) }
     ensures here { IfOk result NoneIsOut }
 {
-    let mut board = match Board::new(alloc, tables, manner, asked) {
+    let mut board = match Board::new(alloc, tables, profile, requested) {
         Ok(board) => board,
         Err(BoardFault::NoMemory(_)) => return Err(NoMemory),
     };

@@ -11,7 +11,7 @@ use Rattle.gw_base.proofs.KeyTests.{any-append_cases, any-append_left, any-appen
 use Rattle.gw_base.proofs.NamesInLists.{either}
 use Rattle.gw_msg.specs.declared.message.Command.{Command}
 use Rattle.gw_refusal.specs.declared.at.At.{At}
-use Rattle.gw_refusal.specs.Asked.{is_add}
+use Rattle.gw_refusal.specs.Requested.{is_add}
 use Rattle.gw_table.specs.Locality.{KeepsTo}
 use Rattle.gw_table.specs.Maps.{Maps, term, ctx}
 use Rattle.gw_table.specs.Parts.{Only, IsPart, restricted, cut, overlaid}

@@ -31,7 +31,7 @@ fn request_of<'m, 'a>(message: &'m Message<'a>) -> Option<&'m Request<'a>> {
         return None;
     };
     match item {
-        Item::Request(passage) => passage.kept_tree(),
+        Item::Request(source) => source.kept_tree(),
         _ => None,
     }
 }

@@ -74,7 +74,7 @@ fn entry_of(line: &[u8]) -> &[u8] {
 /// Whether a line stands in the text.
 fn has_line(text: &[u8], line: &[u8]) -> bool {
     let mut rest = text;
-    // Each step takes a byte at least.
+    // Each step takes one byte or more.
     for _step in text {
         let (other, behind) = split_at_byte(rest, b'\n');
         if other == line {
@@ -88,7 +88,7 @@ fn has_line(text: &[u8], line: &[u8]) -> bool {
 /// Whether a line of the text is about this entry.
 fn has_entry(text: &[u8], entry: &[u8]) -> bool {
     let mut rest = text;
-    // Each step takes a byte at least.
+    // Each step takes one byte or more.
     for _step in text {
         let (other, behind) = split_at_byte(rest, b'\n');
         if entry_of(other) == entry {
@@ -102,7 +102,7 @@ fn has_entry(text: &[u8], entry: &[u8]) -> bool {
 /// Each line that is new or another.
 fn write_new(out: &mut Page, before: &[u8], after: &[u8]) {
     let mut rest = after;
-    // Each step takes a byte at least.
+    // Each step takes one byte or more.
     for _step in after {
         let (line, behind) = split_at_byte(rest, b'\n');
         if !line.is_empty() && !has_line(before, line) {
@@ -116,7 +116,7 @@ fn write_new(out: &mut Page, before: &[u8], after: &[u8]) {
 /// Each entry that is gone.
 fn write_gone(out: &mut Page, before: &[u8], after: &[u8]) {
     let mut rest = before;
-    // Each step takes a byte at least.
+    // Each step takes one byte or more.
     for _step in before {
         let (line, behind) = split_at_byte(rest, b'\n');
         let entry = entry_of(line);

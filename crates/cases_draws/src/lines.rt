@@ -35,7 +35,7 @@ fn write_case<R: Threads + Clock + Sync>(rt: &R, line: &[u8], out: &mut Page) {
 /// Writes each line, and below a case its answer.
 fn write_cases<R: Threads + Clock + Sync>(rt: &R, text: &[u8], out: &mut Page) {
     let mut rest = text;
-    // Each step takes a byte at least.
+    // Each step takes one byte or more.
     for _step in text {
         if rest.is_empty() {
             break;

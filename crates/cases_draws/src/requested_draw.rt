@@ -49,7 +49,7 @@ impl RequestedDraw {
             place: None,
         };
         let mut rest = words;
-        // Each step takes a byte at least.
+        // Each step takes one byte or more.
         for _step in words {
             let (word, behind) = split_word(rest);
             if !word.is_empty() {

@@ -48,7 +48,7 @@ fn write_cases<R: Files + Net + Wait + Threads + Clock + AllocGlobal + Sync>(
 ) {
     let mut cases = Cases::new(out.alloc());
     let mut rest = text;
-    // Each step takes a byte at least.
+    // Each step takes one byte or more.
     for _step in text {
         if rest.is_empty() {
             break;

@@ -59,7 +59,7 @@ fn reading_of(word: &[u8]) -> Result<Option<u64>, CaseFault> {
 fn readings_of(alloc: Global, words: &[u8]) -> Result<Readings, CaseFault> {
     let mut times = Vec::new(alloc);
     let mut rest = words;
-    // Each step takes a byte at least.
+    // Each step takes one byte or more.
     for _step in words {
         if rest.is_empty() {
             break;

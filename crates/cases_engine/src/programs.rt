@@ -41,7 +41,7 @@ const WELL: Ends = Ends {
 fn words_of<'a>(alloc: Global, line: &'a [u8]) -> Result<Vec<&'a str>, AllocError> {
     let mut words = Vec::new(alloc);
     let mut rest = line;
-    // Each step takes a byte at least.
+    // Each step takes one byte or more.
     for _step in line {
         if rest.is_empty() {
             break;

@@ -46,7 +46,7 @@ fn write_written(out: &mut Page, text: &[u8]) {
     let first = first_of(text);
     let mut rest = text;
     let mut count = 0u64;
-    // Each step takes a byte at least.
+    // Each step takes one byte or more.
     for _step in text {
         let Some(behind) = rest.strip_prefix(first) else {
             break;

@@ -97,7 +97,7 @@ fn range_of(word: &[u8]) -> Result<AckRange, CaseFault> {
 fn ranges_of(alloc: Global, text: &[u8]) -> Result<Vec<AckRange>, CaseFault> {
     let mut ranges = Vec::new(alloc);
     let mut rest = text;
-    // Each step takes a byte at least.
+    // Each step takes one byte or more.
     for _step in text {
         if rest.is_empty() {
             break;

@@ -5,8 +5,8 @@ use bumpalo::Bump;
 use cases_text::Page;
 use gw_base::CtxRef;
 use gw_msg::{
-    AckRange, Action, Command, ContextProp, Item, Message, Passage, ReadFault, Request, Triple,
-    read_message, skim_message,
+    AckRange, Action, Command, ContextProp, Item, Message, ReadFault, Request, RequestSource,
+    Triple, read_message, skim_message,
 };
 
 fn write_command(out: &mut Page, command: &Command<'_>) {
@@ -98,11 +98,11 @@ fn write_ack(out: &mut Page, ranges: &[AckRange]) {
     }
 }
 
-fn write_passage(out: &mut Page, passage: &Passage<'_>) {
+fn write_source(out: &mut Page, source: &RequestSource<'_>) {
     let bump = Bump::new(out.alloc());
-    match passage.tree(&bump) {
+    match source.tree(&bump) {
         Ok(tree) => {
-            if passage.id().0 != tree.id.0 {
+            if source.id().0 != tree.id.0 {
                 out.put(b"another number is kept than that of ");
             }
             write_request(out, tree);
@@ -116,7 +116,7 @@ fn write_message(out: &mut Page, message: &Message<'_>) {
     out.put(b": ");
     for item in message.items.as_slice() {
         match item {
-            Item::Request(passage) => write_passage(out, passage),
+            Item::Request(source) => write_source(out, source),
             Item::Ack(ranges) => write_ack(out, ranges.as_slice()),
             Item::Ignored => out.put(b"ignored"),
         }

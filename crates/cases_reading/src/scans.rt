@@ -98,7 +98,7 @@ fn write_steps(out: &mut Page, given: &[u8]) {
     let (steps, text) = split_word(given);
     let mut cursor = Cursor::new(text);
     let mut later = steps;
-    // Each turn takes a byte at least.
+    // Each turn takes one byte or more.
     for _turn in steps {
         if later.is_empty() {
             break;

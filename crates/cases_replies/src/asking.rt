@@ -16,10 +16,10 @@ fn command_of<'m, 'a>(message: &'m Message<'a>) -> Option<&'m Command<'a>> {
     let [item] = message.items.as_slice() else {
         return None;
     };
-    let Item::Request(passage) = item else {
+    let Item::Request(source) = item else {
         return None;
     };
-    let [action] = passage.kept_tree()?.actions.as_slice() else {
+    let [action] = source.kept_tree()?.actions.as_slice() else {
         return None;
     };
     let [command] = action.commands.as_slice() else {

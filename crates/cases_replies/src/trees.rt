@@ -76,7 +76,7 @@ fn add_commands<'a>(
 ) -> Result<&'a [u8], CaseFault> {
     let mut rest = words;
     let mut times = 1;
-    // Each step takes a byte at least.
+    // Each step takes one byte or more.
     for _step in words {
         if rest.is_empty() || rest.starts_with(b"in:") {
             break;
@@ -111,7 +111,7 @@ fn link_of(a: &[u8], b: &[u8], flow: &[u8]) -> Result<Link, CaseFault> {
 fn links_of(alloc: Global, words: &[u8]) -> Result<Items<Link>, CaseFault> {
     let mut links = Items::new(alloc);
     let mut rest = words;
-    // Each step takes a byte at least.
+    // Each step takes one byte or more.
     for _step in words {
         if rest.is_empty() {
             break;
@@ -148,7 +148,7 @@ fn add_parts<'a>(
     words: &'a [u8],
 ) -> Result<&'a [u8], CaseFault> {
     let mut rest = words;
-    // Each step takes a byte at least.
+    // Each step takes one byte or more.
     for _step in words {
         let (word, behind) = split_word(rest);
         let Some(part) = part_of(alloc, word)? else {
@@ -197,7 +197,7 @@ fn add_actions(
     words: &[u8],
 ) -> Result<(), CaseFault> {
     let mut rest = words;
-    // Each step takes a byte at least.
+    // Each step takes one byte or more.
     for _step in words {
         if rest.is_empty() {
             break;

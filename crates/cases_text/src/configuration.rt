@@ -19,7 +19,7 @@ fn add_name(terms: &mut Items<TermName>, name: &[u8]) -> Result<(), CaseFault> {
 /// Adds the names, which have commas between them.
 fn add_names(terms: &mut Items<TermName>, names: &[u8]) -> Result<(), CaseFault> {
     let mut rest = names;
-    // Each step takes a byte at least.
+    // Each step takes one byte or more.
     for _step in names {
         if rest.is_empty() {
             break;
@@ -77,7 +77,7 @@ fn change(alloc: Global, config: &mut Config, word: &[u8]) -> Result<(), CaseFau
 /// Changes the configuration by each of the words.
 fn change_all(alloc: Global, config: &mut Config, words: &[u8]) -> Result<(), CaseFault> {
     let mut rest = words;
-    // Each step takes a byte at least.
+    // Each step takes one byte or more.
     for _step in words {
         let (word, behind) = split_word(rest);
         if !word.is_empty() {

@@ -48,7 +48,7 @@ fn add_escape<'a>(bytes: &mut Vec<u8>, text: &'a [u8]) -> Result<&'a [u8], CaseF
 /// Adds what a line stands for.
 fn add_decoded(bytes: &mut Vec<u8>, line: &[u8]) -> Result<(), CaseFault> {
     let mut rest = line;
-    // Each step takes a byte at least.
+    // Each step takes one byte or more.
     for _step in line {
         let [first, others @ ..] = rest else {
             break;

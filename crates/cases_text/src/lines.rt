@@ -45,7 +45,7 @@ fn write_case<D: CaseRunner>(runner: &mut D, line: &[u8], out: &mut Page) {
 /// Writes each line, and below a case its answer.
 fn write_cases<D: CaseRunner>(runner: &mut D, text: &[u8], out: &mut Page) {
     let mut rest = text;
-    // Each step takes a byte at least.
+    // Each step takes one byte or more.
     for _step in text {
         if rest.is_empty() {
             break;

@@ -137,7 +137,7 @@ impl Page {
     /// Bytes as a case has them. More than 40 equal letters or digits in a row are written as a run.
     pub fn encoded(&mut self, bytes: &[u8]) {
         let mut rest = bytes;
-        // Each step takes a byte at least.
+        // Each step takes one byte or more.
         for _step in bytes {
             let [first, others @ ..] = rest else {
                 break;
@@ -188,7 +188,7 @@ impl Page {
     /// The lines of a text, each behind two spaces, but for the empty ones.
     pub fn indented(&mut self, text: &[u8]) {
         let mut rest = text;
-        // Each step takes a byte at least.
+        // Each step takes one byte or more.
         for _step in text {
             let (line, behind) = split_at_byte(rest, b'\n');
             if !line.is_empty() {

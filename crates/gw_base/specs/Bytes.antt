@@ -3,9 +3,9 @@ use Rattle.std.specs.Prelude.{ℕ, ◌-◌, Bool, ◌||◌, ◌==◌, List, leng
 use Rattle.std.specs.List.{list_any}
 use Rattle.std.specs.Char.{is_ascii_alphabetic, is_ascii_digit, is_ascii_hexdigit}
 
--- one of these marks
+-- one of these signs
 abbrev pub is_one_of : List ℕ → ℕ → Bool
-is_one_of marks b = list_any (λ c. c == b) marks
+is_one_of signs b = list_any (λ c. c == b) signs
 
 -- ALPHA
 abbrev pub is_letter : ℕ → Bool

@@ -111,7 +111,7 @@ fn wild(text: &[u8]) -> TermRef
 
 /// What a text that is no name stands for, if it is a TerminationID.
 #[tactic(auto, using(crate::proofs::TermNames::other_term))]
-fn marked(text: &[u8]) -> Result<TermRef, NameFault>
+fn wildcard_of(text: &[u8]) -> Result<TermRef, NameFault>
     requires some { text.now ≢ [] }
     requires short { length text.now ≤ name_max }
     requires other { ¬ IsName text.now }
@@ -131,7 +131,7 @@ fn named(text: &[u8]) -> Result<TermRef, NameFault>
     match TermName::read(text) {
         Ok(_) if is_root(text) => Ok(TermRef::Root),
         Ok(name) => Ok(TermRef::Name(name)),
-        Err(NameFault::BadByte) => marked(text),
+        Err(NameFault::BadByte) => wildcard_of(text),
         Err(fault) => Err(fault),
     }
 }

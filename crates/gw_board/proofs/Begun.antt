@@ -1,8 +1,8 @@
 -- Where the changes of a draft of whole tables began, as the draft tells it.
 use Rattle.std.proofs.Common.{◌≡◌, List, [], true, ap, sym, subst, ◌∙◌}
 use Rattle.gw_base.specs.declared.key.Key.{Key}
-use Rattle.gw_table.specs.declared.originals.Write.{Write}
-use Rattle.gw_table.specs.Originals.{before_all, undone as taken}
+use Rattle.gw_table.specs.declared.undo_log.Write.{Write}
+use Rattle.gw_table.specs.UndoLog.{before_all, undone as taken}
 use Rattle.gw_table.specs.Parts.{PartKeys, Parted, Over, start_of}
 use Rattle.gw_table.specs.Stored.{Stored, maps_of, is_ready, KeepReady, NoOtherReady}
 use Rattle.gw_table.proofs.InPlace.{begun_ready, maps_before_all}

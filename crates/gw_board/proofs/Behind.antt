@@ -13,21 +13,21 @@ use Rattle.gw_board.specs.Waves.{is_pending, meets_pending, is_free}
 use Rattle.gw_board.proofs.Planning.{and_false, filter_more}
 
 pub not_pending : (m : Maps) (places : List Place) (i : ℕ) (p : Place) → slice_get places i ≡ Some p → is_pending p.standing ≡ false → IsNoneOfWave m places i
-not_pending m places i p e h = ap (is_free m (take i places)) e ∙ ap (λ b. b && not (meets_pending (keys_of p.asked m) m (take i places))) h
+not_pending m places i p e h = ap (is_free m (take i places)) e ∙ ap (λ b. b && not (meets_pending (keys_of p.requested m) m (take i places))) h
 
-found : (k : List Key) (m : Maps) (places : List Place) (i j : ℕ) (q : Place) → slice_get places j ≡ Some q → j < i → (is_pending q.standing && meets (keys_of q.asked m) k) ≡ true → meets_pending k m (take i places) ≡ true
+found : (k : List Key) (m : Maps) (places : List Place) (i j : ℕ) (q : Place) → slice_get places j ≡ Some q → j < i → (is_pending q.standing && meets (keys_of q.requested m) k) ≡ true → meets_pending k m (take i places) ≡ true
 found k m places zero j q e l h = absurd (omega arith)
 found k m [] (suc i) j q e l h = absurd cc
 found k m (x ∷ xs) (suc i) zero q e l h =
     let same : x ≡ q = cc in
-    or_left (is_pending x.standing && meets (keys_of x.asked m) k) (meets_pending k m (take i xs)) (ap (λ (y : Place). is_pending y.standing && meets (keys_of y.asked m) k) same ∙ h)
-found k m (x ∷ xs) (suc i) (suc j) q e l h = or_right (is_pending x.standing && meets (keys_of x.asked m) k) (meets_pending k m (take i xs)) (found k m xs i j q e (omega arith) h)
+    or_left (is_pending x.standing && meets (keys_of x.requested m) k) (meets_pending k m (take i xs)) (ap (λ (y : Place). is_pending y.standing && meets (keys_of y.requested m) k) same ∙ h)
+found k m (x ∷ xs) (suc i) (suc j) q e l h = or_right (is_pending x.standing && meets (keys_of x.requested m) k) (meets_pending k m (take i xs)) (found k m xs i j q e (omega arith) h)
 
 pub behind : (m : Maps) (places : List Place) (i j : ℕ) (p q : Place) → slice_get places i ≡ Some p → slice_get places j ≡ Some q → j < i
-    → (is_pending q.standing && meets (keys_of q.asked m) (keys_of p.asked m)) ≡ true → IsNoneOfWave m places i
+    → (is_pending q.standing && meets (keys_of q.requested m) (keys_of p.requested m)) ≡ true → IsNoneOfWave m places i
 behind m places i j p q e f l h =
     ap (is_free m (take i places)) e
-    ∙ ap (λ b. is_pending p.standing && not b) (found (keys_of p.asked m) m places i j q f l h)
+    ∙ ap (λ b. is_pending p.standing && not b) (found (keys_of p.requested m) m places i j q f l h)
     ∙ and_false (is_pending p.standing)
 
 -- nothing of the rest passes

@@ -14,12 +14,12 @@ use Rattle.gw_table.specs.Stored.{Stored, names_entry, AreReady, KeepReady, None
 use Rattle.gw_table.specs.WellFormed.{AreWellFormed}
 use Rattle.gw_board.specs.Alone.{is_unclosed_at, TakesLast, Off, Fresh}
 use Rattle.gw_board.specs.BoardView.{IsOnTheWay, IsKeptIn}
-use Rattle.gw_board.specs.Boards.{Seen, Handed, core_of, asked_of, with_open, with_result, is_closed, is_pending_at, AllClosed, unclosed}
-use Rattle.gw_board.specs.Carried.{Asked, keys_of, done, carried}
+use Rattle.gw_board.specs.Boards.{Seen, Handed, core_of, requested_in, with_open, with_result, is_closed, is_pending_at, AllClosed, unclosed}
+use Rattle.gw_board.specs.Carried.{BurstRequest, keys_of, done, carried}
 use Rattle.gw_board.specs.Core.{Standing, Pending, Opened, Closed, Place, Job, pending, open_with, closed_with, meets_at, meets_any, MayOpen}
 use Rattle.gw_board.specs.Fitting.{Each, out, Stands, Beside, Stand}
 use Rattle.gw_board.specs.GoingOn.{MayGoOn}
-use Rattle.gw_board.specs.Journal.{Original, led as led_to, undone}
+use Rattle.gw_board.specs.Journal.{UndoStep, led as led_to, undone}
 use Rattle.gw_board.specs.OpenJobs.{IsSameBurst}
 use Rattle.gw_board.specs.Results.{is_open, carried_on, NothingIsOpen}
 use Rattle.gw_board.specs.Texts.{Text}
@@ -27,11 +27,11 @@ use Rattle.gw_board.specs.Waves.{is_pending}
 use Rattle.gw_board.proofs.Comes.{out_of_none}
 use Rattle.gw_board.proofs.Drawing.{set_here}
 use Rattle.gw_board.proofs.KeptIn.{all_ready}
-use Rattle.gw_board.proofs.OnTheWay.{asked-set, set_twice, begun_still, open_way, result_way}
+use Rattle.gw_board.proofs.OnTheWay.{requested-set, set_twice, begun_still, open_way, result_way}
 use Rattle.gw_board.proofs.Orders.{behind_in, each_joined, each_front, each_behind}
 use Rattle.gw_board.proofs.Outs.{cut_none, laid_on}
 use Rattle.gw_board.proofs.Requests.{keeps}
-use Rattle.gw_board.proofs.SeatFacts.{unclosed-less}
+use Rattle.gw_board.proofs.BoardEntryFacts.{unclosed-less}
 use Rattle.gw_board.proofs.Slices.{parts_at}
 use Rattle.gw_board.proofs.Steps.{made_of, undone-append}
 
@@ -44,7 +44,7 @@ none_met keys m (p ∷ ps) h =
     let both = neither (not (is_closed p.standing)) (list_any (λ q. not (is_closed q.standing)) ps) h in
     by p.standing both.0 (none_met keys m ps both.1)
   where
-    by : (x : Standing) → not (is_closed x) ≡ false → meets_any keys m ps ≡ false → (meets_at keys m p.asked x || meets_any keys m ps) ≡ false
+    by : (x : Standing) → not (is_closed x) ≡ false → meets_any keys m ps ≡ false → (meets_at keys m p.requested x || meets_any keys m ps) ≡ false
     by Pending e g = absurd cc
     by (Opened j) e g = absurd cc
     by (Closed reply) e g = g
@@ -95,40 +95,40 @@ laid_same k p m = laid_on k [] k p m (λ q. or_nothing (has k q)) (λ q h. refl)
 -- ---- the place
 
 -- the reply stands there, and this original is the journal's last, behind these
-abbrev pub with_alone : Seen → ℕ → Asked → List Original → Original → Seen
+abbrev pub with_alone : Seen → ℕ → BurstRequest → List UndoStep → UndoStep → Seen
 with_alone b i a front last = record b {
-  maps = (done b.manner a b.maps).maps;
-  places = slice_set b.places i (closed_with a (done b.manner a b.maps).answer);
-  originals = front ++ last ∷ [];
+  maps = (done b.profile a b.maps).maps;
+  places = slice_set b.places i (closed_with a (done b.profile a b.maps).answer);
+  undo_log = front ++ last ∷ [];
 }
 
 -- ---- the original that is gone on with
 
-pub took_back : (before after : List Original) (last : Original) → TakesLast before after last → (m : Maps) → undone after (led_to last m) ≡ undone before m
-took_back before after last (Off e) m = sym (undone-append after (last ∷ []) m) ∙ ap (λ (l : List Original). undone l m) (sym e)
-took_back before after last (Fresh e f) m = ap (λ (o : Original). undone after (led_to o m)) f ∙ ap (λ (l : List Original). undone l m) e
+pub took_back : (before after : List UndoStep) (last : UndoStep) → TakesLast before after last → (m : Maps) → undone after (led_to last m) ≡ undone before m
+took_back before after last (Off e) m = sym (undone-append after (last ∷ []) m) ∙ ap (λ (l : List UndoStep). undone l m) (sym e)
+took_back before after last (Fresh e f) m = ap (λ (o : UndoStep). undone after (led_to o m)) f ∙ ap (λ (l : List UndoStep). undone l m) e
 
-pub took_ready : (before after : List Original) (last : Original) → TakesLast before after last → (s : Stored) → Each (λ o. AreReady o.keys s) before → Each (λ o. AreReady o.keys s) after × AreReady last.keys s
+pub took_ready : (before after : List UndoStep) (last : UndoStep) → TakesLast before after last → (s : Stored) → Each (λ o. AreReady o.keys s) before → Each (λ o. AreReady o.keys s) after × AreReady last.keys s
 took_ready before after last (Off e) s h =
-    let both = subst (λ (l : List Original). Each (λ o. AreReady o.keys s) l) e h in
+    let both = subst (λ (l : List UndoStep). Each (λ o. AreReady o.keys s) l) e h in
     (each_front (λ o. AreReady o.keys s) after (last ∷ []) both, (each_behind (λ o. AreReady o.keys s) after (last ∷ []) both).0)
 took_ready before after last (Fresh e f) s h =
-    (subst (λ (l : List Original). Each (λ o. AreReady o.keys s) l) (sym e) h, subst (λ (o : Original). AreReady o.keys s) (sym f) (λ k g. absurd cc))
+    (subst (λ (l : List UndoStep). Each (λ o. AreReady o.keys s) l) (sym e) h, subst (λ (o : UndoStep). AreReady o.keys s) (sym f) (λ k g. absurd cc))
 
-module _ (b : Seen) (w : IsOnTheWay b) (none : NothingIsOpen (core_of b)) (i : ℕ) (a : Asked) (pends : slice_get b.places i ≡ Some (pending a)) where
+module _ (b : Seen) (w : IsOnTheWay b) (none : NothingIsOpen (core_of b)) (i : ℕ) (a : BurstRequest) (pends : slice_get b.places i ≡ Some (pending a)) where
   whole_is : b.maps ≡ w.fits.whole
   whole_is = w.fits.maps ∙ cut_none (out b.places) w.fits.whole (out_of_none b.places none)
 
-  pub well_here : AreWellFormed b.manner.rules.members b.maps
-  well_here = subst (AreWellFormed b.manner.rules.members) (sym whole_is) w.fits.well
+  pub well_here : AreWellFormed b.profile.rules.members b.maps
+  well_here = subst (AreWellFormed b.profile.rules.members) (sym whole_is) w.fits.well
 
   pub unused_here : AreFreeSlots b.maps a.owned.slots
   unused_here = subst (λ (n : Maps). AreFreeSlots n a.owned.slots) (sym whole_is)
-      (behind_in (Stands b.manner w.fits.whole) (Beside w.fits.whole) (take i b.places) (pending a ∷ drop (suc i) b.places)
-      (subst (Stand b.manner w.fits.whole) (parts_at b.places i (pending a) pends) w.fits.stand)).0
+      (behind_in (Stands b.profile w.fits.whole) (Beside w.fits.whole) (take i b.places) (pending a ∷ drop (suc i) b.places)
+      (subst (Stand b.profile w.fits.whole) (parts_at b.places i (pending a) pends) w.fits.stand)).0
 
   abbrev o : Outcome Text
-  o = done b.manner a b.maps
+  o = done b.profile a b.maps
 
   abbrev closed : Place
   closed = closed_with a o.answer
@@ -139,18 +139,18 @@ module _ (b : Seen) (w : IsOnTheWay b) (none : NothingIsOpen (core_of b)) (i : �
   pub alone_fewer : suc (unclosed (slice_set b.places i closed)) ≡ unclosed b.places
   alone_fewer = unclosed-less b.places i (pending a) closed pends refl refl
 
-  pub alone_same : (front : List Original) (last : Original) → IsSameBurst b (with_alone b i a front last)
-  alone_same front last = record { manner = refl; start = refl; asked = asked-set b.places i (pending a) closed pends refl }
+  pub alone_same : (front : List UndoStep) (last : UndoStep) → IsSameBurst b (with_alone b i a front last)
+  alone_same front last = record { profile = refl; start = refl; requested = requested-set b.places i (pending a) closed pends refl }
 
-  pub alone_kept : (front : List Original) (last : Original) (s t : Stored) → Each (λ o. AreReady o.keys s) front → NoneIsOut t → KeepReady s t → AreReady last.keys t → IsKeptIn t (with_alone b i a front last)
+  pub alone_kept : (front : List UndoStep) (last : UndoStep) (s t : Stored) → Each (λ o. AreReady o.keys s) front → NoneIsOut t → KeepReady s t → AreReady last.keys t → IsKeptIn t (with_alone b i a front last)
   alone_kept front last s t kept here ready new = record {
     out = λ k. here k ∙ ap (λ x. x && names_entry k) (sym (out_of_none (slice_set b.places i closed) alone_none k));
     ready = each_joined (λ x. AreReady x.keys t) front (last ∷ []) (all_ready front s t ready kept) (new, tt);
   }
 
   -- the journal leads from the maps as they are to those of the start
-  pub led_back : undone b.originals b.maps ≡ (maps_of b.start)
-  led_back = ap (undone b.originals) whole_is ∙ w.back
+  pub led_back : undone b.undo_log b.maps ≡ (maps_of b.start)
+  led_back = ap (undone b.undo_log) whole_is ∙ w.back
 
   module _ (first : AllClosed (take i b.places)) where
     pub alone_closed : AllClosed (take (suc i) (slice_set b.places i closed))
@@ -163,7 +163,7 @@ module _ (b : Seen) (w : IsOnTheWay b) (none : NothingIsOpen (core_of b)) (i : �
     job = record { keys = keys; part = restricted keys b.maps; result = None }
 
     abbrev handed : Handed
-    handed = record { manner = b.manner; place = i; asked = a; keys = keys; part = restricted keys b.maps }
+    handed = record { profile = b.profile; place = i; requested = a; keys = keys; part = restricted keys b.maps }
 
     may : MayOpen (core_of b) i a keys
     may = record { pends = pends; listed = λ q. refl; free = none_met keys b.maps (take i b.places) first }
@@ -173,17 +173,17 @@ module _ (b : Seen) (w : IsOnTheWay b) (none : NothingIsOpen (core_of b)) (i : �
     ended = with_result (with_open b i a keys) handed
 
     way : IsOnTheWay ended
-    way = result_way (with_open b i a keys) handed (open_way b w i a keys may) (record { manner = refl; stands = set_here b.places i (pending a) (open_with a job) pends })
+    way = result_way (with_open b i a keys) handed (open_way b w i a keys may) (record { profile = refl; stands = set_here b.places i (pending a) (open_with a job) pends })
 
-    keeping : KeepsTo keys (done b.manner a) b.maps
-    keeping = keeps b.manner a b.maps well_here unused_here
+    keeping : KeepsTo keys (done b.profile a) b.maps
+    keeping = keeps b.profile a b.maps well_here unused_here
 
     same_outcome : ended.maps ≡ o.maps
-    same_outcome = laid_same keys (done b.manner a (restricted keys b.maps)).maps b.maps ∙ keeping.maps
+    same_outcome = laid_same keys (done b.profile a (restricted keys b.maps)).maps b.maps ∙ keeping.maps
 
     same_places : ended.places ≡ slice_set b.places i closed
     same_places =
-        set_twice b.places i (open_with a job) (closed_with a (done b.manner a (restricted keys b.maps)).answer)
+        set_twice b.places i (open_with a job) (closed_with a (done b.profile a (restricted keys b.maps)).answer)
         ∙ ap (λ (r : Text). slice_set b.places i (closed_with a r)) keeping.answer
 
     none_ended : list_any (λ p. is_open p.standing) ended.places ≡ false
@@ -192,24 +192,24 @@ module _ (b : Seen) (w : IsOnTheWay b) (none : NothingIsOpen (core_of b)) (i : �
     whole_after : way.fits.whole ≡ o.maps
     whole_after = sym (cut_none (out ended.places) way.fits.whole (out_of_none ended.places none_ended)) ∙ sym way.fits.maps ∙ same_outcome
 
-    is_ended : ended ≡ record { manner = b.manner; start = b.start; maps = o.maps; places = slice_set b.places i closed; originals = ended.originals }
-    is_ended = λ j. record { manner = b.manner; start = b.start; maps = same_outcome j; places = same_places j; originals = ended.originals }
+    is_ended : ended ≡ record { profile = b.profile; start = b.start; maps = o.maps; places = slice_set b.places i closed; undo_log = ended.undo_log }
+    is_ended = λ j. record { profile = b.profile; start = b.start; maps = same_outcome j; places = same_places j; undo_log = ended.undo_log }
 
     -- with the place closed the way goes on, by the journal that opening and closing it leaves
-    pub alone_goes_on : MayGoOn b.manner b.start o.maps (slice_set b.places i closed)
-    alone_goes_on = record { originals = ended.originals; way = subst IsOnTheWay is_ended way; none = alone_none }
+    pub alone_goes_on : MayGoOn b.profile b.start o.maps (slice_set b.places i closed)
+    alone_goes_on = record { undo_log = ended.undo_log; way = subst IsOnTheWay is_ended way; none = alone_none }
 
     -- whichever keys changed: the last original leads to maps that those before it lead on from
-    pub alone_way : (front : List Original) (last : Original) (m : Maps) → led_to last o.maps ≡ m → undone front m ≡ (maps_of b.start) → IsOnTheWay (with_alone b i a front last)
+    pub alone_way : (front : List UndoStep) (last : UndoStep) (m : Maps) → led_to last o.maps ≡ m → undone front m ≡ (maps_of b.start) → IsOnTheWay (with_alone b i a front last)
     alone_way front last m is led =
         let c : Seen = with_alone b i a front last in
         record {
-          begun = begun_still b w i a c refl refl (asked-set b.places i (pending a) closed pends refl);
-          fits = made_of b.manner (core_of c) way.fits.whole ended.places way.fits.well (sym same_places) (sym same_outcome ∙ way.fits.maps) way.fits.stand;
+          begun = begun_still b w i a c refl refl (requested-set b.places i (pending a) closed pends refl);
+          fits = made_of b.profile (core_of c) way.fits.whole ended.places way.fits.well (sym same_places) (sym same_outcome ∙ way.fits.maps) way.fits.stand;
           outcome =
-              ap (λ (l : List Place). carried_on b.manner l way.fits.whole) (sym same_places)
+              ap (λ (l : List Place). carried_on b.profile l way.fits.whole) (sym same_places)
               ∙ way.outcome
-              ∙ ap (λ (l : List Place). carried b.manner (asked_of l) (maps_of b.start)) same_places;
+              ∙ ap (λ (l : List Place). carried b.profile (requested_in l) (maps_of b.start)) same_places;
           back =
               undone-append front (last ∷ []) way.fits.whole
               ∙ ap (λ (n : Maps). undone front (led_to last n)) whole_after

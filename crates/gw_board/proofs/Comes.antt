@@ -3,7 +3,7 @@ use Rattle.std.proofs.Common.{◌≡◌, ℕ, Bool, true, false, cond, List, [],
 use Rattle.std.specs.Prelude.{◌||◌}
 use Rattle.std.specs.List.{list_any}
 use Rattle.gw_base.specs.declared.ids.CtxNum.{CtxNum}
-use Rattle.gw_board.specs.declared.manner.Manner.{Manner}
+use Rattle.gw_board.specs.declared.profile.Profile.{Profile}
 use Rattle.gw_base.specs.declared.key.Key.{Key}
 use Rattle.gw_base.specs.declared.key.Key.TheVariants.{Term, Ctx}
 use Rattle.gw_base.specs.Keys.{has, same_key}
@@ -15,9 +15,9 @@ use Rattle.gw_table.specs.Unused.{AreUnused}
 use Rattle.gw_table.specs.WellFormed.{AreWellFormed}
 use Rattle.gw_table.proofs.Lookups.{same_maps}
 use Rattle.gw_table.proofs.PartLookups.{term-restricted, ctx-restricted, term-cut, ctx-cut, term-overlaid, ctx-overlaid}
-use Rattle.gw_board.specs.Carried.{Asked, carried}
+use Rattle.gw_board.specs.Carried.{BurstRequest, carried}
 use Rattle.gw_board.specs.Core.{Standing, Pending, Opened, Closed, Place, Core, start, Event, Events}
-use Rattle.gw_board.specs.Journal.{original_of, journal, undone}
+use Rattle.gw_board.specs.Journal.{undo_step_of, journal, undone}
 use Rattle.gw_board.specs.Results.{is_open, NothingIsOpen, part_back, all_back, carried_at, carried_on, result_of, AreClosed, slots_of}
 use Rattle.gw_board.proofs.Orders.{each_in}
 use Rattle.gw_board.proofs.Outs.{any-append, cut_none}
@@ -34,9 +34,9 @@ module _ {X : Type 0} where
   all_put true x = refl
   all_put false x = refl
 
-module _ (manner : Manner) (m n : Maps) where
+module _ (profile : Profile) (m n : Maps) where
   -- what is read at a key, by whether it was out
-  terms_at : (a : Asked) (x : Standing) (o : List Key) (later : Maps) → Fits manner a m x → ((q : List ℕ) → term later q ≡ cond (has o (Term q)) (term m q) (term n q)) → (q : List ℕ) → term (part_back x later) q ≡ cond (has (out_at x ++ o) (Term q)) (term m q) (term n q)
+  terms_at : (a : BurstRequest) (x : Standing) (o : List Key) (later : Maps) → Fits profile a m x → ((q : List ℕ) → term later q ≡ cond (has o (Term q)) (term m q) (term n q)) → (q : List ℕ) → term (part_back x later) q ≡ cond (has (out_at x ++ o) (Term q)) (term m q) (term n q)
   terms_at a Pending o later f h q = h q
   terms_at a (Closed reply) o later f h q = h q
   terms_at a (Opened j) o later f h q =
@@ -46,7 +46,7 @@ module _ (manner : Manner) (m n : Maps) where
       ∙ put (has j.keys (Term q)) (has o (Term q)) (term m q) (term n q)
       ∙ ap (λ b. cond b (term m q) (term n q)) (sym (any-append (same_key (Term q)) j.keys o))
 
-  ctxs_at : (a : Asked) (x : Standing) (o : List Key) (later : Maps) → Fits manner a m x → ((q : CtxNum) → ctx later q ≡ cond (has o (Ctx q)) (ctx m q) (ctx n q)) → (q : CtxNum) → ctx (part_back x later) q ≡ cond (has (out_at x ++ o) (Ctx q)) (ctx m q) (ctx n q)
+  ctxs_at : (a : BurstRequest) (x : Standing) (o : List Key) (later : Maps) → Fits profile a m x → ((q : CtxNum) → ctx later q ≡ cond (has o (Ctx q)) (ctx m q) (ctx n q)) → (q : CtxNum) → ctx (part_back x later) q ≡ cond (has (out_at x ++ o) (Ctx q)) (ctx m q) (ctx n q)
   ctxs_at a Pending o later f h q = h q
   ctxs_at a (Closed reply) o later f h q = h q
   ctxs_at a (Opened j) o later f h q =
@@ -56,28 +56,28 @@ module _ (manner : Manner) (m n : Maps) where
       ∙ put (has j.keys (Ctx q)) (has o (Ctx q)) (ctx m q) (ctx n q)
       ∙ ap (λ b. cond b (ctx m q) (ctx n q)) (sym (any-append (same_key (Ctx q)) j.keys o))
 
-  terms_back : (places : List Place) → Each (Stands manner m) places → (q : List ℕ) → term (all_back places n) q ≡ cond (has (out places) (Term q)) (term m q) (term n q)
+  terms_back : (places : List Place) → Each (Stands profile m) places → (q : List ℕ) → term (all_back places n) q ≡ cond (has (out places) (Term q)) (term m q) (term n q)
   terms_back [] h q = refl
-  terms_back (p ∷ ps) h q = terms_at p.asked p.standing (out ps) (all_back ps n) h.0 (terms_back ps h.1) q
+  terms_back (p ∷ ps) h q = terms_at p.requested p.standing (out ps) (all_back ps n) h.0 (terms_back ps h.1) q
 
-  ctxs_back : (places : List Place) → Each (Stands manner m) places → (q : CtxNum) → ctx (all_back places n) q ≡ cond (has (out places) (Ctx q)) (ctx m q) (ctx n q)
+  ctxs_back : (places : List Place) → Each (Stands profile m) places → (q : CtxNum) → ctx (all_back places n) q ≡ cond (has (out places) (Ctx q)) (ctx m q) (ctx n q)
   ctxs_back [] h q = refl
-  ctxs_back (p ∷ ps) h q = ctxs_at p.asked p.standing (out ps) (all_back ps n) h.0 (ctxs_back ps h.1) q
+  ctxs_back (p ∷ ps) h q = ctxs_at p.requested p.standing (out ps) (all_back ps n) h.0 (ctxs_back ps h.1) q
 
-whole_back : (manner : Manner) (places : List Place) (m : Maps) → Each (Stands manner m) places → all_back places (cut (out places) m) ≡ m
-whole_back manner places m h = same_maps (all_back places (cut (out places) m)) m
-    (λ q. terms_back manner m (cut (out places) m) places h q ∙ ap (cond (has (out places) (Term q)) (term m q)) (term-cut (out places) m q) ∙ all_put (has (out places) (Term q)) (term m q))
-    (λ q. ctxs_back manner m (cut (out places) m) places h q ∙ ap (cond (has (out places) (Ctx q)) (ctx m q)) (ctx-cut (out places) m q) ∙ all_put (has (out places) (Ctx q)) (ctx m q))
+whole_back : (profile : Profile) (places : List Place) (m : Maps) → Each (Stands profile m) places → all_back places (cut (out places) m) ≡ m
+whole_back profile places m h = same_maps (all_back places (cut (out places) m)) m
+    (λ q. terms_back profile m (cut (out places) m) places h q ∙ ap (cond (has (out places) (Term q)) (term m q)) (term-cut (out places) m q) ∙ all_put (has (out places) (Term q)) (term m q))
+    (λ q. ctxs_back profile m (cut (out places) m) places h q ∙ ap (cond (has (out places) (Ctx q)) (ctx m q)) (ctx-cut (out places) m q) ∙ all_put (has (out places) (Ctx q)) (ctx m q))
 
-pub result_kept : (manner : Manner) (s : Core) (k : FitsTogether manner s) → result_of manner s ≡ carried_on manner s.places k.whole
-result_kept manner s k =
-    ap (carried_on manner s.places) (ap (all_back s.places) k.maps ∙ whole_back manner s.places k.whole (each_in (Stands manner k.whole) (Beside k.whole) s.places k.stand))
+pub result_kept : (profile : Profile) (s : Core) (k : FitsTogether profile s) → result_of profile s ≡ carried_on profile s.places k.whole
+result_kept profile s k =
+    ap (carried_on profile s.places) (ap (all_back s.places) k.maps ∙ whole_back profile s.places k.whole (each_in (Stands profile k.whole) (Beside k.whole) s.places k.stand))
 
-pub results_are : (manner : Manner) (workers : ℕ) (asked : List Asked) (m : Maps) (s : Core) → AreWellFormed manner.rules.members m → AreUnused m [] (slots_of asked) → Events manner (start workers asked m) s → result_of manner s ≡ carried manner asked m
-results_are manner workers asked m s w u events =
-    let k : FitsTogether manner (start workers asked m) = kept_start manner workers asked m w u in
-    let l : Leaves manner (start workers asked m) s k (journal events) = steps_leave manner (start workers asked m) s k events in
-    result_kept manner s l.kept ∙ l.same ∙ carried_start manner asked m
+pub results_are : (profile : Profile) (workers : ℕ) (requested : List BurstRequest) (m : Maps) (s : Core) → AreWellFormed profile.rules.members m → AreUnused m [] (slots_of requested) → Events profile (start workers requested m) s → result_of profile s ≡ carried profile requested m
+results_are profile workers requested m s w u events =
+    let k : FitsTogether profile (start workers requested m) = kept_start profile workers requested m w u in
+    let l : Leaves profile (start workers requested m) s k (journal events) = steps_leave profile (start workers requested m) s k events in
+    result_kept profile s l.kept ∙ l.same ∙ carried_start profile requested m
 
 -- ---- where nothing is open
 
@@ -90,8 +90,8 @@ nothing_back : (places : List Place) (m : Maps) → list_any (λ p. is_open p.st
 nothing_back [] m h = refl
 nothing_back (p ∷ ps) m h = let both = neither (is_open p.standing) (list_any (λ p. is_open p.standing) ps) h in back_at p.standing (all_back ps m) both.0 ∙ nothing_back ps m both.1
 
-pub nothing_open : (manner : Manner) (s : Core) → NothingIsOpen s → result_of manner s ≡ carried_on manner s.places s.maps
-nothing_open manner s h = ap (carried_on manner s.places) (nothing_back s.places s.maps h)
+pub nothing_open : (profile : Profile) (s : Core) → NothingIsOpen s → result_of profile s ≡ carried_on profile s.places s.maps
+nothing_open profile s h = ap (carried_on profile s.places) (nothing_back s.places s.maps h)
 
 -- ---- where every place is closed
 
@@ -103,18 +103,18 @@ closed_ones (p ∷ ps) (r ∷ rs) e =
     let later : AreClosed ps rs = cc in
     ap (λ (x : Standing). is_open x || list_any (λ p. is_open p.standing) ps) first ∙ closed_ones ps rs later
 
-closed_on : (manner : Manner) (places : List Place) (replies : List Text) (m : Maps) → AreClosed places replies → carried_on manner places m ≡ record { maps = m; answer = replies }
-closed_on manner [] [] m e = refl
-closed_on manner [] (r ∷ rs) m e = absurd cc
-closed_on manner (p ∷ ps) [] m e = absurd cc
-closed_on manner (p ∷ ps) (r ∷ rs) m e =
+closed_on : (profile : Profile) (places : List Place) (replies : List Text) (m : Maps) → AreClosed places replies → carried_on profile places m ≡ record { maps = m; answer = replies }
+closed_on profile [] [] m e = refl
+closed_on profile [] (r ∷ rs) m e = absurd cc
+closed_on profile (p ∷ ps) [] m e = absurd cc
+closed_on profile (p ∷ ps) (r ∷ rs) m e =
     let first : p.standing ≡ Closed r = cc in
     let later : AreClosed ps rs = cc in
-    ap (λ (x : Standing). let now : Outcome Text = carried_at manner p.asked x m in let rest : Outcome (List Text) = carried_on manner ps now.maps in record { maps = rest.maps; answer = now.answer ∷ rest.answer }) first
-    ∙ ap (λ (o : Outcome (List Text)). record { maps = o.maps; answer = r ∷ o.answer }) (closed_on manner ps rs m later)
+    ap (λ (x : Standing). let now : Outcome Text = carried_at profile p.requested x m in let rest : Outcome (List Text) = carried_on profile ps now.maps in record { maps = rest.maps; answer = now.answer ∷ rest.answer }) first
+    ∙ ap (λ (o : Outcome (List Text)). record { maps = o.maps; answer = r ∷ o.answer }) (closed_on profile ps rs m later)
 
-pub all_closed : (manner : Manner) (s : Core) (replies : List Text) → AreClosed s.places replies → result_of manner s ≡ record { maps = s.maps; answer = replies }
-all_closed manner s replies e = nothing_open manner s (closed_ones s.places replies e) ∙ closed_on manner s.places replies s.maps e
+pub all_closed : (profile : Profile) (s : Core) (replies : List Text) → AreClosed s.places replies → result_of profile s ≡ record { maps = s.maps; answer = replies }
+all_closed profile s replies e = nothing_open profile s (closed_ones s.places replies e) ∙ closed_on profile s.places replies s.maps e
 
 -- ---- the way back
 
@@ -129,18 +129,18 @@ out_of_none (p ∷ ps) h q =
     by (Opened j) e = absurd cc
     by (Closed reply) e = refl
 
-pub undone_is : (manner : Manner) (workers : ℕ) (asked : List Asked) (m : Maps) (s : Core) → AreWellFormed manner.rules.members m → AreUnused m [] (slots_of asked) → (events : Events manner (start workers asked m) s) → NothingIsOpen s → undone (journal events) s.maps ≡ m
-undone_is manner workers asked m s w u events h =
-    let k : FitsTogether manner (start workers asked m) = kept_start manner workers asked m w u in
-    let l : Leaves manner (start workers asked m) s k (journal events) = steps_leave manner (start workers asked m) s k events in
+pub undone_is : (profile : Profile) (workers : ℕ) (requested : List BurstRequest) (m : Maps) (s : Core) → AreWellFormed profile.rules.members m → AreUnused m [] (slots_of requested) → (events : Events profile (start workers requested m) s) → NothingIsOpen s → undone (journal events) s.maps ≡ m
+undone_is profile workers requested m s w u events h =
+    let k : FitsTogether profile (start workers requested m) = kept_start profile workers requested m w u in
+    let l : Leaves profile (start workers requested m) s k (journal events) = steps_leave profile (start workers requested m) s k events in
     ap (undone (journal events)) (l.kept.maps ∙ cut_none (out s.places) l.kept.whole (out_of_none s.places h)) ∙ l.back
 
 -- ---- one event
 
-pub fits_on : (manner : Manner) (s t : Core) → FitsTogether manner s → Event manner s t → FitsTogether manner t
-fits_on manner s t k event = (step_leaves manner s t k event).kept
+pub fits_on : (profile : Profile) (s t : Core) → FitsTogether profile s → Event profile s t → FitsTogether profile t
+fits_on profile s t k event = (step_leaves profile s t k event).kept
 
-pub comes_to_the_same : (manner : Manner) (s t : Core) → FitsTogether manner s → Event manner s t → result_of manner t ≡ result_of manner s
-comes_to_the_same manner s t k event =
-    let l : Leaves manner s t k (original_of event) = step_leaves manner s t k event in
-    result_kept manner t l.kept ∙ l.same ∙ sym (result_kept manner s k)
+pub comes_to_the_same : (profile : Profile) (s t : Core) → FitsTogether profile s → Event profile s t → result_of profile t ≡ result_of profile s
+comes_to_the_same profile s t k event =
+    let l : Leaves profile s t k (undo_step_of event) = step_leaves profile s t k event in
+    result_kept profile t l.kept ∙ l.same ∙ sym (result_kept profile s k)

@@ -2,11 +2,11 @@
 use Rattle.std.proofs.Common.{nat_eq, ◌≡◌, ℕ, zero, suc, ◌<◌, Bool, true, false, cond, not, List, [], ◌∷◌, ◌++◌, map, length, Option, None, Some, refl, sym, ap, subst, ◌∙◌, eqb-true, eq-eqb}
 use Rattle.std.specs.Prelude.{◌≢◌, ◌||◌, slice_get, slice_set, find}
 use Rattle.std.specs.List.{list_any}
-use Rattle.gw_board.specs.declared.manner.Manner.{Manner}
+use Rattle.gw_board.specs.declared.profile.Profile.{Profile}
 use Rattle.gw_base.proofs.NamesInLists.{or_cases, either}
 use Rattle.gw_table.specs.Maps.{Maps}
 use Rattle.gw_table.specs.Parts.{restricted}
-use Rattle.gw_board.specs.Carried.{Asked}
+use Rattle.gw_board.specs.Carried.{BurstRequest}
 use Rattle.gw_board.specs.Core.{Standing, Pending, Opened, Closed, Place, Job, Core, pending, open_with, closed_with, start, undrawn_at, is_undrawn, drawn, without_place, MayDraw, Event, Open, Draw, Close, Return, Events, none, more}
 use Rattle.gw_board.specs.Results.{is_open, is_open_at}
 
@@ -98,21 +98,21 @@ module _ (opened : List ℕ) (places : List Place) (l : AreListed opened places)
       by true n = ap (λ j. is_open_at (slice_get places j)) (eqb-true k i n) ∙ ap (λ o. is_open_at o) e ∙ sym h ∙ sym (here k n)
       by false n = elsewhere k n
 
-module _ (manner : Manner) where
-  listed_on : (s t : Core) → AreListed s.opened s.places → Event manner s t → AreListed t.opened t.places
+module _ (profile : Profile) where
+  listed_on : (s t : Core) → AreListed s.opened s.places → Event profile s t → AreListed t.opened t.places
   listed_on s t l (Open i a keys may is) = subst (λ (u : Core). AreListed u.opened u.places) (sym is) (opens s.opened s.places l i (pending a) (open_with a (record { keys = keys; part = restricted keys s.maps; result = None })) may.pends refl)
-  listed_on s t l (Draw worker i a j may is) = subst (λ (u : Core). AreListed u.opened u.places) (sym is) (stays s.opened s.places l i (open_with a j) (open_with a (drawn manner a j)) may.stands refl)
+  listed_on s t l (Draw worker i a j may is) = subst (λ (u : Core). AreListed u.opened u.places) (sym is) (stays s.opened s.places l i (open_with a j) (open_with a (drawn profile a j)) may.stands refl)
   listed_on s t l (Close i a j result may is) = subst (λ (u : Core). AreListed u.opened u.places) (sym is) (shuts s.opened s.places l i (open_with a j) (closed_with a result.answer) may.stands refl)
   listed_on s t l (Return i a j may is) = subst (λ (u : Core). AreListed u.opened u.places) (sym is) (shuts s.opened s.places l i (open_with a j) (pending a) may.stands refl)
 
-  listed_after : (s t : Core) → AreListed s.opened s.places → Events manner s t → AreListed t.opened t.places
+  listed_after : (s t : Core) → AreListed s.opened s.places → Events profile s t → AreListed t.opened t.places
   listed_after s t l none = l
   listed_after s t l (more {t = u} event later) = listed_after u t (listed_on s u l event) later
 
-  pub open_listed : (workers : ℕ) (asked : List Asked) (m : Maps) (s : Core) → Events manner (start workers asked m) s → AreListed s.opened s.places
-  open_listed workers asked m s events = listed_after (start workers asked m) s (λ k. sym (nothing asked k)) events
+  pub open_listed : (workers : ℕ) (requested : List BurstRequest) (m : Maps) (s : Core) → Events profile (start workers requested m) s → AreListed s.opened s.places
+  open_listed workers requested m s events = listed_after (start workers requested m) s (λ k. sym (nothing requested k)) events
     where
-      nothing : (asked : List Asked) (k : ℕ) → is_open_at (slice_get (map pending asked) k) ≡ false
+      nothing : (requested : List BurstRequest) (k : ℕ) → is_open_at (slice_get (map pending requested) k) ≡ false
       nothing [] k = refl
       nothing (a ∷ later) zero = refl
       nothing (a ∷ later) (suc k) = nothing later k
@@ -140,9 +140,9 @@ find_one test (x ∷ xs) i h t = by (test x) refl (λ g. find_one test xs i g t)
 
 -- the job at such a place
 record HasJob (o : Option Place) : Type 0 where
-  asked : Asked
+  requested : BurstRequest
   job : Job
-  is : o ≡ Some (open_with asked job)
+  is : o ≡ Some (open_with requested job)
 
 job_at : (o : Option Place) → undrawn_at o ≡ true → HasJob o
 job_at None h = absurd cc
@@ -150,7 +150,7 @@ job_at (Some p) h = by p.standing refl h
   where
     by : (x : Standing) → p.standing ≡ x → is_undrawn x ≡ true → HasJob (Some p)
     by Pending e u = absurd cc
-    by (Opened j) e u = record { asked = p.asked; job = j; is = λ k. Some (record { asked = p.asked; standing = e k }) }
+    by (Opened j) e u = record { requested = p.requested; job = j; is = λ k. Some (record { requested = p.requested; standing = e k }) }
     by (Closed reply) e u = absurd cc
 
 open_if : (o : Option Place) → undrawn_at o ≡ true → is_open_at o ≡ true
@@ -162,9 +162,9 @@ open_if (Some p) h = by p.standing h
     by (Opened j) u = refl
     by (Closed reply) u = absurd cc
 
-pub may_draw : (manner : Manner) (workers : ℕ) (asked : List Asked) (m : Maps) (s : Core) → Events manner (start workers asked m) s → (worker i : ℕ) → worker < length s.lists → undrawn_at (slice_get s.places i) ≡ true → (k : ℕ) × (a : Asked) × (j : Job) × MayDraw s worker k a j
-may_draw manner workers asked m s events worker i w h =
-    let there : list_any (nat_eq i) s.opened ≡ true = open_listed manner workers asked m s events i ∙ open_if (slice_get s.places i) h in
+pub may_draw : (profile : Profile) (workers : ℕ) (requested : List BurstRequest) (m : Maps) (s : Core) → Events profile (start workers requested m) s → (worker i : ℕ) → worker < length s.lists → undrawn_at (slice_get s.places i) ≡ true → (k : ℕ) × (a : BurstRequest) × (j : Job) × MayDraw s worker k a j
+may_draw profile workers requested m s events worker i w h =
+    let there : list_any (nat_eq i) s.opened ≡ true = open_listed profile workers requested m s events i ∙ open_if (slice_get s.places i) h in
     let f : IsFound (λ k. undrawn_at (slice_get s.places k)) s.opened = find_one (λ k. undrawn_at (slice_get s.places k)) s.opened i there h in
     let j : HasJob (slice_get s.places f.first) = job_at (slice_get s.places f.first) f.passes in
-    (f.first, j.asked, j.job, record { works = w; next = f.is; stands = j.is })
+    (f.first, j.requested, j.job, record { works = w; next = f.is; stands = j.is })

@@ -3,10 +3,10 @@ use Rattle.std.proofs.Common.{◌≡◌, ℕ, ◌+◌, Bool, true, false, List, 
 use Rattle.std.specs.Prelude.{◌||◌, slice_get, slice_set}
 use Rattle.std.specs.List.{list_any, range_with_len}
 use Rattle.std.proofs.lemmas.List.{length-append}
-use Rattle.gw_board.specs.declared.manner.Manner.{Manner}
+use Rattle.gw_board.specs.declared.profile.Profile.{Profile}
 use Rattle.gw_board.specs.Texts.{Text}
 use Rattle.gw_table.specs.Maps.{Outcome}
-use Rattle.gw_board.specs.Carried.{Asked}
+use Rattle.gw_board.specs.Carried.{BurstRequest}
 use Rattle.gw_board.specs.Core.{Standing, Pending, Opened, Closed, Place, Job, Core, pending, open_with, closed_with, after_close, after_return, Close, Return, Events, none, more}
 use Rattle.gw_board.specs.Endings.{job_ended, standing_ended, place_ended, places_ended, all_ended}
 use Rattle.gw_board.specs.Results.{is_open, NothingIsOpen}
@@ -24,19 +24,19 @@ shut_more (q ∷ qs) p h e = by (is_open q.standing) h (λ g. shut_more qs p g e
     by false i f = f i
 
 -- some events, after which nothing is open
-pub record Ends (manner : Manner) (s t : Core) : Type 0 where
-  pub events : Events manner s t
+pub record Ends (profile : Profile) (s t : Core) : Type 0 where
+  pub events : Events profile s t
   pub shut : NothingIsOpen t
 
-module _ (manner : Manner) where
+module _ (profile : Profile) where
   -- a place is past: at most one event, and it is not open
   record Passes (s u : Core) (front rest : List Place) : Type 0 where
     new : Place
     shut : is_open new.standing ≡ false
     places : u.places ≡ front ++ new ∷ rest
-    then : {t : Core} → Events manner u t → Events manner s t
+    then : {t : Core} → Events profile u t → Events profile s t
 
-  module _ (s : Core) (front rest : List Place) (i : ℕ) (a : Asked) (j : Job) (n : length front ≡ i) (e : s.places ≡ front ++ open_with a j ∷ rest) where
+  module _ (s : Core) (front rest : List Place) (i : ℕ) (a : BurstRequest) (j : Job) (n : length front ≡ i) (e : s.places ≡ front ++ open_with a j ∷ rest) where
     stands : slice_get s.places i ≡ Some (open_with a j)
     stands = (λ k. slice_get (e k) (sym n k)) ∙ item_at front rest (open_with a j)
 
@@ -57,29 +57,29 @@ module _ (manner : Manner) where
   stays : (s : Core) (front rest : List Place) (p : Place) → s.places ≡ front ++ p ∷ rest → is_open p.standing ≡ false → Passes s s front rest
   stays s front rest p e h = record { new = p; shut = h; places = e; then = λ later. later }
 
-  passes : (s : Core) (front rest : List Place) (i : ℕ) (p : Place) → length front ≡ i → s.places ≡ front ++ p ∷ rest → (chosen : Bool) (x : Standing) → p.standing ≡ x → Passes s (standing_ended s i p.asked chosen x) front rest
+  passes : (s : Core) (front rest : List Place) (i : ℕ) (p : Place) → length front ≡ i → s.places ≡ front ++ p ∷ rest → (chosen : Bool) (x : Standing) → p.standing ≡ x → Passes s (standing_ended s i p.requested chosen x) front rest
   passes s front rest i p n e chosen Pending f = stays s front rest p e (ap (λ (x : Standing). is_open x) f)
   passes s front rest i p n e chosen (Opened j) f =
-      job_passes s front rest i p.asked j n (e ∙ (λ k. front ++ record { asked = p.asked; standing = f k } ∷ rest)) chosen j.result refl
+      job_passes s front rest i p.requested j n (e ∙ (λ k. front ++ record { requested = p.requested; standing = f k } ∷ rest)) chosen j.result refl
   passes s front rest i p n e chosen (Closed reply) f = stays s front rest p e (ap (λ (x : Standing). is_open x) f)
 
   module _ (choice : ℕ → Bool) where
-    rest_ends : (rest front : List Place) (i : ℕ) (s : Core) → length front ≡ i → s.places ≡ front ++ rest → IsShut front → Ends manner s (places_ended choice (range_with_len i (length rest)) s)
+    rest_ends : (rest front : List Place) (i : ℕ) (s : Core) → length front ≡ i → s.places ≡ front ++ rest → IsShut front → Ends profile s (places_ended choice (range_with_len i (length rest)) s)
     rest_ends [] front i s n e h = record { events = none; shut = subst IsShut (sym (e ∙ append-nil front)) h }
     rest_ends (p ∷ ps) front i s n e h =
         let here : slice_get s.places i ≡ Some p = (λ k. slice_get (e k) (sym n k)) ∙ item_at front ps p in
         let u : Core = place_ended s i (choice i) (Some p) in
         let one : Passes s u front ps = passes s front ps i p n e (choice i) p.standing refl in
         let count : length (front ++ one.new ∷ []) ≡ i + 1 = omega (arith, length-append front (one.new ∷ []), n) in
-        let later : Ends manner u (places_ended choice (range_with_len (i + 1) (length ps)) u) =
+        let later : Ends profile u (places_ended choice (range_with_len (i + 1) (length ps)) u) =
         rest_ends ps (front ++ one.new ∷ []) (i + 1) u count (one.places ∙ one_more front ps one.new) (shut_more front one.new h one.shut) in
-        subst (λ (o : Option Place). Ends manner s (places_ended choice (range_with_len (i + 1) (length ps)) (place_ended s i (choice i) o))) (sym here)
+        subst (λ (o : Option Place). Ends profile s (places_ended choice (range_with_len (i + 1) (length ps)) (place_ended s i (choice i) o))) (sym here)
         (record { events = one.then later.events; shut = later.shut })
 
-    pub all_end : (s : Core) → Ends manner s (all_ended choice s)
+    pub all_end : (s : Core) → Ends profile s (all_ended choice s)
     all_end s = rest_ends s.places [] 0 s refl refl refl
 
 -- some events, and then others
-pub joined : {manner : Manner} {s t u : Core} → Events manner s t → Events manner t u → Events manner s u
+pub joined : {profile : Profile} {s t u : Core} → Events profile s t → Events profile t u → Events profile s u
 joined none later = later
 joined (more event rest) later = more event (joined rest later)

@@ -10,18 +10,18 @@ use Rattle.gw_table.specs.Parts.{Over, Parted}
 use Rattle.gw_table.specs.Stored.{Stored, maps_of}
 use Rattle.gw_table.specs.WellFormed.{AreWellFormed}
 use Rattle.gw_tx.specs.Footprints.{Covers}
-use Rattle.gw_board.specs.declared.manner.Manner.{Manner}
+use Rattle.gw_board.specs.declared.profile.Profile.{Profile}
 use Rattle.gw_board.specs.Alone.{is_unclosed_at}
 use Rattle.gw_board.specs.BoardView.{IsOnTheWay}
 use Rattle.gw_board.specs.Boards.{Seen, core_of, is_closed, is_pending_at, AllClosed, unclosed}
-use Rattle.gw_board.specs.Carried.{Asked, done}
-use Rattle.gw_board.specs.Core.{Standing, Pending, Opened, Closed, Place, Job, pending, closed_with}
+use Rattle.gw_board.specs.Carried.{BurstRequest}
+use Rattle.gw_board.specs.Core.{Standing, Pending, Opened, Closed, Place, pending}
 use Rattle.gw_board.specs.Fitting.{out}
 use Rattle.gw_board.specs.GoingOn.{MayGoOn}
-use Rattle.gw_board.specs.Journal.{Original, led as led_to, undone}
+use Rattle.gw_board.specs.Journal.{UndoStep, led as led_to, undone}
 use Rattle.gw_board.specs.Results.{is_open, NothingIsOpen}
 use Rattle.gw_board.specs.Waves.{is_pending}
-use Rattle.gw_board.proofs.CarriedAlone.{well_here, unused_here, alone_goes_on}
+use Rattle.gw_board.proofs.CarriedAlone.{well_here, unused_here}
 use Rattle.gw_board.proofs.Comes.{out_of_none}
 use Rattle.gw_board.proofs.Outs.{cut_none}
 use Rattle.gw_board.proofs.Steps.{undone-append}
@@ -75,7 +75,7 @@ passed_closed (q ∷ qs) (suc i) none off h =
     λ k. both.0 k || passed_closed qs i (neither (is_open q.standing) (list_any (λ p. is_open p.standing) qs) none).1 off both.1 k
 
 -- nothing is open where all are pending
-pub none_pending : (asked : List Asked) → list_any (λ p. is_open p.standing) (map pending asked) ≡ false
+pub none_pending : (requested : List BurstRequest) → list_any (λ p. is_open p.standing) (map pending requested) ≡ false
 none_pending [] = refl
 none_pending (a ∷ more) = none_pending more
 
@@ -84,29 +84,29 @@ pub whole_there : (b : Seen) (w : IsOnTheWay b) → NothingIsOpen (core_of b) �
 whole_there b w none = w.fits.maps ∙ cut_none (out b.places) w.fits.whole (out_of_none b.places none)
 
 -- the journal leads from the maps to those of the start
-pub led_from : (b : Seen) (w : IsOnTheWay b) → NothingIsOpen (core_of b) → undone b.originals b.maps ≡ (maps_of b.start)
-led_from b w none = ap (undone b.originals) (whole_there b w none) ∙ w.back
+pub led_from : (b : Seen) (w : IsOnTheWay b) → NothingIsOpen (core_of b) → undone b.undo_log b.maps ≡ (maps_of b.start)
+led_from b w none = ap (undone b.undo_log) (whole_there b w none) ∙ w.back
 
-module _ (manner : Manner) (start : Stored) (maps : Maps) (places : List Place) (g : MayGoOn manner start maps places) where
+module _ (profile : Profile) (start : Stored) (maps : Maps) (places : List Place) (g : MayGoOn profile start maps places) where
   abbrev b : Seen
-  b = record { manner = manner; start = start; maps = maps; places = places; originals = g.originals }
+  b = record { profile = profile; start = start; maps = maps; places = places; undo_log = g.undo_log }
 
   -- any other journal that leads back is as good
-  pub with_journal : (originals : List Original) → undone originals maps ≡ maps_of start → IsOnTheWay (record { manner = manner; start = start; maps = maps; places = places; originals = originals })
-  with_journal originals led = record {
+  pub with_journal : (undo_log : List UndoStep) → undone undo_log maps ≡ maps_of start → IsOnTheWay (record { profile = profile; start = start; maps = maps; places = places; undo_log = undo_log })
+  with_journal undo_log led = record {
     begun = record { well = g.way.begun.well; unused = g.way.begun.unused };
     fits = g.way.fits;
     outcome = g.way.outcome;
-    back = ap (undone originals) (sym (whole_there b g.way g.none)) ∙ led;
+    back = ap (undone undo_log) (sym (whole_there b g.way g.none)) ∙ led;
   }
 
-  module _ (i : ℕ) (a : Asked) (pends : slice_get places i ≡ Some (pending a)) where
-    pub well_goes_on : AreWellFormed manner.rules.members maps
+  module _ (i : ℕ) (a : BurstRequest) (pends : slice_get places i ≡ Some (pending a)) where
+    pub well_goes_on : AreWellFormed profile.rules.members maps
     well_goes_on = well_here b g.way g.none i a pends
 
     pub unused_goes_on : AreFreeSlots maps a.owned.slots
     unused_goes_on = unused_here b g.way g.none i a pends
 
 -- the last original leads to maps that those before it lead on from
-pub led_behind : (front : List Original) (last : Original) (m n begun : Maps) → led_to last m ≡ n → undone front n ≡ begun → undone (front ++ last ∷ []) m ≡ begun
+pub led_behind : (front : List UndoStep) (last : UndoStep) (m n begun : Maps) → led_to last m ≡ n → undone front n ≡ begun → undone (front ++ last ∷ []) m ≡ begun
 led_behind front last m n begun e f = undone-append front (last ∷ []) m ∙ ap (undone front) e ∙ f

@@ -7,7 +7,7 @@ use Rattle.gw_base.proofs.NamesInLists.{or_left, or_right}
 use Rattle.gw_table.specs.Parts.{restricted, cut}
 use Rattle.gw_table.specs.Maps.{Maps}
 use Rattle.gw_board.specs.Boards.{Seen, Handed, core_of, with_open, Opens, is_pending_at, meets_here}
-use Rattle.gw_board.specs.Carried.{Asked, keys_of}
+use Rattle.gw_board.specs.Carried.{BurstRequest, keys_of}
 use Rattle.gw_board.specs.Core.{Core, Place, pending, open_with, meets_at, meets_any, AreKeysOf, MayOpen, after_open}
 use Rattle.gw_board.specs.Fitting.{Each}
 use Rattle.gw_board.specs.Met.{IsRefused}
@@ -41,27 +41,27 @@ on_board (i ∷ later) s b m p h = (
 pub each_of_wave : (b : Seen) → NothingIsOpen (core_of b) → MayOpenEach b (wave (core_of b))
 each_of_wave b h = on_board (wave (core_of b)) (core_of b) b refl refl (wave_may_open (core_of b) h)
 
-abbrev asked_at : Asked → Option Place → Asked
+abbrev asked_at : BurstRequest → Option Place → BurstRequest
 asked_at d None = d
-asked_at d (Some p) = p.asked
+asked_at d (Some p) = p.requested
 
-same_asked : (b : Seen) (i : ℕ) (a c : Asked) → slice_get b.places i ≡ Some (pending a) → slice_get b.places i ≡ Some (pending c) → a ≡ c
+same_asked : (b : Seen) (i : ℕ) (a c : BurstRequest) → slice_get b.places i ≡ Some (pending a) → slice_get b.places i ≡ Some (pending c) → a ≡ c
 same_asked b i a c e f = ap (asked_at a) (sym e ∙ f)
 
 pub each_later : (b c : Seen) (i : ℕ) (later : List ℕ) (h : Handed) → MayOpenEach b (i ∷ later) → Opens b i h c → MayOpenEach c later
 each_later b c i later h each o =
-    let mine : Asked = each.0 in
+    let mine : BurstRequest = each.0 in
     let first : MayOpen (core_of b) i mine (keys_of mine b.maps) = (each.1 (keys_of mine b.maps) (λ q. refl)).0 in
-    let same : h.asked ≡ mine = same_asked b i h.asked mine o.may.pends first.pends in
-    let listed : AreKeysOf mine b.maps h.keys = subst (λ (a : Asked). AreKeysOf a b.maps h.keys) same o.may.listed in
-    subst (λ (x : Seen). MayOpenEach x later) (ap (λ (a : Asked). with_open b i a h.keys) (sym same) ∙ sym o.board) (each.1 h.keys listed).1
+    let same : h.requested ≡ mine = same_asked b i h.requested mine o.may.pends first.pends in
+    let listed : AreKeysOf mine b.maps h.keys = subst (λ (a : BurstRequest). AreKeysOf a b.maps h.keys) same o.may.listed in
+    subst (λ (x : Seen). MayOpenEach x later) (ap (λ (a : BurstRequest). with_open b i a h.keys) (sym same) ∙ sym o.board) (each.1 h.keys listed).1
 
 -- what is met at an earlier place is met
 met_before : (keys : List Key) (m : Maps) (places : List Place) (i j : ℕ) → j < i → meets_here keys m (slice_get places j) ≡ true → meets_any keys m (take i places) ≡ true
 met_before keys m places zero j l h = absurd (omega arith)
 met_before keys m [] (suc i) j l h = absurd cc
-met_before keys m (p ∷ ps) (suc i) zero l h = or_left (meets_at keys m p.asked p.standing) (meets_any keys m (take i ps)) h
-met_before keys m (p ∷ ps) (suc i) (suc j) l h = or_right (meets_at keys m p.asked p.standing) (meets_any keys m (take i ps)) (met_before keys m ps i j (omega arith) h)
+met_before keys m (p ∷ ps) (suc i) zero l h = or_left (meets_at keys m p.requested p.standing) (meets_any keys m (take i ps)) h
+met_before keys m (p ∷ ps) (suc i) (suc j) l h = or_right (meets_at keys m p.requested p.standing) (meets_any keys m (take i ps)) (met_before keys m ps i j (omega arith) h)
 
 pub not_refused : (b : Seen) (i : ℕ) (later : List ℕ) (fault : OpenFault) → MayOpenEach b (i ∷ later) → IsRefused b i fault → fault ≡ NoMemory
 not_refused b i later NotPending each r =
@@ -69,9 +69,9 @@ not_refused b i later NotPending each r =
     absurd (let clash : true ≡ false = ap is_pending_at (sym first.pends) ∙ r in cc)
 not_refused b i later (Meets j) each r =
     let first : MayOpen (core_of b) i each.0 (keys_of each.0 b.maps) = (each.1 (keys_of each.0 b.maps) (λ q. refl)).0 in
-    let same : r.asked ≡ each.0 = same_asked b i r.asked each.0 r.pends first.pends in
-    let met : meets_any (keys_of r.asked b.maps) b.maps (take i b.places) ≡ true = met_before (keys_of r.asked b.maps) b.maps b.places i j r.earlier r.met in
-    absurd (let clash : true ≡ false = sym met ∙ ap (λ (a : Asked). meets_any (keys_of a b.maps) b.maps (take i b.places)) same ∙ first.free in cc)
+    let same : r.requested ≡ each.0 = same_asked b i r.requested each.0 r.pends first.pends in
+    let met : meets_any (keys_of r.requested b.maps) b.maps (take i b.places) ≡ true = met_before (keys_of r.requested b.maps) b.maps b.places i j r.earlier r.met in
+    absurd (let clash : true ≡ false = sym met ∙ ap (λ (a : BurstRequest). meets_any (keys_of a b.maps) b.maps (take i b.places)) same ∙ first.free in cc)
 not_refused b i later NoMemory each r = refl
 
 -- ---- with the keys that were found
@@ -83,12 +83,12 @@ with_keys start [] s b (p ∷ ps) e r m q g = absurd cc
 with_keys start (i ∷ later) s b (p ∷ ps) e r m q g =
     let first : p.place ≡ i = cc in
     let rest : map (λ (p : Planned). p.place) ps ≡ later = cc in
-    let a : Asked = g.0.asked in
-    let same : r.0.asked ≡ a = same_asked start p.place r.0.asked a r.0.pends (ap (λ (n : ℕ). slice_get start.places n) first ∙ g.0.stands) in
-    let listed : AreKeysOf a s.maps p.keys = λ k. r.0.listed k ∙ ap (λ (x : Asked). has (keys_of x start.maps) k) same ∙ ap (λ (ks : List Key). has ks k) (sym g.0.keys) in
+    let a : BurstRequest = g.0.requested in
+    let same : r.0.requested ≡ a = same_asked start p.place r.0.requested a r.0.pends (ap (λ (n : ℕ). slice_get start.places n) first ∙ g.0.stands) in
+    let listed : AreKeysOf a s.maps p.keys = λ k. r.0.listed k ∙ ap (λ (x : BurstRequest). has (keys_of x start.maps) k) same ∙ ap (λ (ks : List Key). has ks k) (sym g.0.keys) in
     let now = g.1 p.keys listed in (
       record {
-        asked = a;
+        requested = a;
         may = record {
           pends = (λ j. slice_get (sym q j) (first j)) ∙ now.0.pends;
           listed = λ k. listed k ∙ ap (λ (n : Maps). has (keys_of a n) k) m;
@@ -106,5 +106,5 @@ planned_in_turn b planned h p = with_keys b (wave (core_of b)) (core_of b) b pla
 
 pub next_in_turn : (b c : Seen) (p : Planned) (later : List Planned) (h : Handed) → MayOpenInTurn b (p ∷ later) → Opens b p.place h c → h.keys ≡ p.keys → MayOpenInTurn c later
 next_in_turn b c p later h each o e =
-    let same : h.asked ≡ each.0.asked = same_asked b p.place h.asked each.0.asked o.may.pends each.0.may.pends in
+    let same : h.requested ≡ each.0.requested = same_asked b p.place h.requested each.0.requested o.may.pends each.0.may.pends in
     subst (λ (x : Seen). MayOpenInTurn x later) ((λ j. with_open b p.place (sym same j) (sym e j)) ∙ sym o.board) each.1

@@ -8,11 +8,11 @@ use Rattle.gw_base.specs.Keys.{has}
 use Rattle.gw_table.specs.declared.place.Place.{Place as Slot}
 use Rattle.gw_table.specs.Stored.{Stored, has_left, is_out, names_entry, AreReady, AreIn, AreOut, NoneIsOut, KeepReady, WentOut, CameBack}
 use Rattle.gw_board.specs.BoardView.{IsOnTheWay, IsKeptIn}
-use Rattle.gw_board.specs.Boards.{Seen, Handed, HasOpen, core_of, begun_board, job_of, original_in, with_open, with_result, unchanged, outcome_of}
-use Rattle.gw_board.specs.Carried.{Asked}
+use Rattle.gw_board.specs.Boards.{Seen, Handed, HasOpen, core_of, begun_board, job_of, undo_step_in, with_open, with_result, unchanged, outcome_of}
+use Rattle.gw_board.specs.Carried.{BurstRequest}
 use Rattle.gw_board.specs.Core.{Place, pending, open_with, closed_with, MayOpen}
 use Rattle.gw_board.specs.Fitting.{Each, out_at, out}
-use Rattle.gw_board.specs.Journal.{Original}
+use Rattle.gw_board.specs.Journal.{UndoStep}
 use Rattle.gw_board.specs.Results.{NothingIsOpen}
 use Rattle.gw_board.proofs.Closing.{clear_of_others}
 use Rattle.gw_board.proofs.Comes.{out_of_none}
@@ -53,8 +53,8 @@ out_are_ready keys s o (Term t) h = left_ready (finite.get s.terms t) (o (Term t
 out_are_ready keys s o (Ctx n) h = left_ready (finite.get s.contexts n.0) (o (Ctx n) h refl)
 out_are_ready keys s o Whole h = refl
 
-pub all_ready : (originals : List Original) (s t : Stored) → KeepReady s t → Each (λ o. AreReady o.keys s) originals → Each (λ o. AreReady o.keys t) originals
-all_ready originals s t f h = each_map {P = λ o. AreReady o.keys s} {Q = λ o. AreReady o.keys t} (λ o g k i. f k (g k i)) originals h
+pub all_ready : (undo_log : List UndoStep) (s t : Stored) → KeepReady s t → Each (λ o. AreReady o.keys s) undo_log → Each (λ o. AreReady o.keys t) undo_log
+all_ready undo_log s t f h = each_map {P = λ o. AreReady o.keys s} {Q = λ o. AreReady o.keys t} (λ o g k i. f k (g k i)) undo_log h
 
 -- ---- what the places have out
 
@@ -70,35 +70,35 @@ module _ (places : List Place) (i : ℕ) (x : Place) (e : slice_get places i ≡
 
 -- ---- at the start
 
-pub begun_kept : (manner : _) (asked : List Asked) (start s : Stored) → NoneIsOut s → IsKeptIn s (begun_board manner asked start)
-begun_kept manner asked start s h = record { out = λ k. h k ∙ ap (λ b. b && names_entry k) (sym (nothing_out asked k)); ready = tt }
+pub begun_kept : (profile : _) (requested : List BurstRequest) (start s : Stored) → NoneIsOut s → IsKeptIn s (begun_board profile requested start)
+begun_kept profile requested start s h = record { out = λ k. h k ∙ ap (λ b. b && names_entry k) (sym (nothing_out requested k)); ready = tt }
 
 -- ---- a place is opened
 
-pub open_in : (b : Seen) (i : ℕ) (a : Asked) (keys : List Key) (s : Stored) → IsOnTheWay b → MayOpen (core_of b) i a keys → ((k : Key) → is_out s k ≡ (has (out b.places) k && names_entry k)) → AreIn keys s
-open_in b i a keys s w may is k h = is k ∙ ap (λ o. o && names_entry k) ((open_clear b.manner (core_of b) w.fits i a keys may).none k h)
+pub open_in : (b : Seen) (i : ℕ) (a : BurstRequest) (keys : List Key) (s : Stored) → IsOnTheWay b → MayOpen (core_of b) i a keys → ((k : Key) → is_out s k ≡ (has (out b.places) k && names_entry k)) → AreIn keys s
+open_in b i a keys s w may is k h = is k ∙ ap (λ o. o && names_entry k) ((open_clear b.profile (core_of b) w.fits i a keys may).none k h)
 
-pub open_kept : (b : Seen) (i : ℕ) (a : Asked) (keys : List Key) (s t : Stored) → IsKeptIn s b → slice_get b.places i ≡ Some (pending a) → WentOut keys s t → KeepReady s t → IsKeptIn t (with_open b i a keys)
+pub open_kept : (b : Seen) (i : ℕ) (a : BurstRequest) (keys : List Key) (s t : Stored) → IsKeptIn s b → slice_get b.places i ≡ Some (pending a) → WentOut keys s t → KeepReady s t → IsKeptIn t (with_open b i a keys)
 open_kept b i a keys s t kept e went ready = record {
   out = λ k.
       went k
       ∙ ap (λ o. o || (has keys k && names_entry k)) (kept.out k ∙ ap (λ o. o && names_entry k) (was_out b.places i (pending a) e k))
       ∙ opened_too (names_entry k) (has keys k) (has (out (others b.places i (pending a) e)) k)
       ∙ ap (λ o. o && names_entry k) (sym (now_out b.places i (pending a) e (open_with a _) k));
-  ready = all_ready b.originals s t ready kept.ready;
+  ready = all_ready b.undo_log s t ready kept.ready;
 }
 
 -- ---- a job is closed
 
 module _ (b : Seen) (w : IsOnTheWay b) (h : Handed) (o : HasOpen b h) (s : Stored) (kept : IsKeptIn s b) where
   abbrev x : Place
-  x = open_with h.asked (job_of h)
+  x = open_with h.requested (job_of h)
 
   pub open_out : AreOut h.keys s
   open_out k i n = kept.out k ∙ (λ j. was_out b.places h.place x o.stands k j && n j) ∙ (λ j. (i j || has (out (others b.places h.place x o.stands)) k) && true)
 
   not_others : (k : Key) → has h.keys k ≡ true → has (out (others b.places h.place x o.stands)) k ≡ false
-  not_others k i = (clear_of_others b.manner w.fits.whole h.asked (job_of h) _ _ (here_stand b.manner (core_of b) w.fits h.place h.asked (job_of h) o.stands)).none k i
+  not_others k i = (clear_of_others b.profile w.fits.whole h.requested (job_of h) _ _ (here_stand b.profile (core_of b) w.fits h.place h.requested (job_of h) o.stands)).none k i
 
   module _ (t : Stored) (back : CameBack h.keys s t) (ready : KeepReady s t) where
     out_now : (new : Place) → out_at new.standing ≡ [] → (k : Key) → is_out t k ≡ (has (out (slice_set b.places h.place new)) k && names_entry k)
@@ -109,12 +109,12 @@ module _ (b : Seen) (w : IsOnTheWay b) (h : Handed) (o : HasOpen b h) (s : Store
         ∙ ap (λ q. q && names_entry k) (ap (λ (l : List Key). has l k || has (out (others b.places h.place x o.stands)) k) (sym e) ∙ sym (now_out b.places h.place x o.stands new k))
 
     pub unchanged_kept : IsKeptIn t (unchanged b h)
-    unchanged_kept = record { out = out_now (pending h.asked) refl; ready = all_ready b.originals s t ready kept.ready }
+    unchanged_kept = record { out = out_now (pending h.requested) refl; ready = all_ready b.undo_log s t ready kept.ready }
 
     pub result_kept_in : IsKeptIn t (with_result b h)
     result_kept_in = record {
-      out = out_now (closed_with h.asked (outcome_of h).answer) refl;
-      ready = each_joined (λ p. AreReady p.keys t) b.originals (original_in h ∷ []) (all_ready b.originals s t ready kept.ready) ((λ k i. ready k (out_are_ready h.keys s open_out k i)), tt);
+      out = out_now (closed_with h.requested (outcome_of h).answer) refl;
+      ready = each_joined (λ p. AreReady p.keys t) b.undo_log (undo_step_in h ∷ []) (all_ready b.undo_log s t ready kept.ready) ((λ k i. ready k (out_are_ready h.keys s open_out k i)), tt);
     }
 
 -- ---- at the end

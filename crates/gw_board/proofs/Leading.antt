@@ -20,14 +20,14 @@ use Rattle.gw_table.specs.Maps.{Maps, term, ctx, place_of, members_of}
 use Rattle.gw_table.specs.Reserved.{slot_name}
 use Rattle.gw_table.specs.Unused.{owned}
 use Rattle.gw_table.specs.WellFormed.{AreWellFormed}
-use Rattle.gw_refusal.specs.Asked.{is_add}
+use Rattle.gw_refusal.specs.Requested.{is_add}
 use Rattle.gw_cmd.specs.Keys.{every_key, keys_if, place_key, name_keys, slot_key}
 use Rattle.gw_cmd.proofs.Ready.{every_ctx}
 use Rattle.gw_reserve.specs.Owned.{first_owned, later_owned, paired_commands, paired_action, paired_actions, AreFreeSlots}
 use Rattle.gw_tx.specs.Footprints.{is_for_each, one_context, stands_for_all, keys_of_members, named_keys, keys_in_action, keys_of_links, action_footprint, footprint_of}
 use Rattle.gw_tx.specs.Properties.{linked_names}
 use Rattle.gw_tx.proofs.FreeSlots.{IsOfKind, kind_first, kind_later}
-use Rattle.gw_board.specs.Carried.{Asked, keys_of}
+use Rattle.gw_board.specs.Carried.{BurstRequest, keys_of}
 
 -- a context with a member is there
 pub there_is : (o : Option ContextRecord) (t : List ℕ) → is_in t (members_of o) ≡ true → is_some o ≡ true
@@ -123,15 +123,15 @@ module _ (limit : ℕ) (m : Maps) (w : AreWellFormed limit m) (keys : List Key) 
   lead_action number slots a f h =
       let all : List Key = keys_if (is_for_each a.ctx) (every_key m) in
       let one : List Key = place_key (one_context a.ctx number) in
-      let asked : List Key = flat_map (keys_in_action a.ctx number m) (paired_commands slots a.commands) in
+      let requested : List Key = flat_map (keys_in_action a.ctx number m) (paired_commands slots a.commands) in
       let links : List Key = keys_of_links (paired_action number slots a) m in
-      let named : Among (all ++ one ++ asked) keys = left (all ++ one ++ asked) links h in
-      let front : Among (all ++ one) keys = left (all ++ one) asked named in
-      lead_both (all ++ one ++ asked) links
-      (lead_both (all ++ one) asked
+      let named : Among (all ++ one ++ requested) keys = left (all ++ one ++ requested) links h in
+      let front : Among (all ++ one) keys = left (all ++ one) requested named in
+      lead_both (all ++ one ++ requested) links
+      (lead_both (all ++ one) requested
       (lead_both all one (lead_every (is_for_each a.ctx) (left all one front)) (lead_place (one_context a.ctx number)))
-      (lead_commands a.ctx number (right all one front) slots a.commands f (right (all ++ one) asked named)))
-      (lead_links (linked_names a.props) (right (all ++ one ++ asked) links h))
+      (lead_commands a.ctx number (right all one front) slots a.commands f (right (all ++ one) requested named)))
+      (lead_links (linked_names a.props) (right (all ++ one ++ requested) links h))
 
   lead_actions : (numbers : List (Option CtxNum)) (slots : List (Option ℕ)) (actions : List Action) → All (IsEmptyIn m) (owned slots) → Among (footprint_of (paired_actions numbers slots actions) m) keys → Lead (footprint_of (paired_actions numbers slots actions) m)
   lead_actions numbers slots [] f h = lead_none
@@ -142,5 +142,5 @@ module _ (limit : ℕ) (m : Maps) (w : AreWellFormed limit m) (keys : List Key) 
       (lead_action (first_owned numbers) slots a f (left mine later h))
       (lead_actions (later_owned numbers) (drop (length a.commands) slots) more (kind_behind (IsEmptyIn m) (length a.commands) slots f) (right mine later h))
 
-pub keys_lead : (limit : ℕ) (a : Asked) (m : Maps) → AreWellFormed limit m → AreFreeSlots m a.owned.slots → Leads (keys_of a m) m
+pub keys_lead : (limit : ℕ) (a : BurstRequest) (m : Maps) → AreWellFormed limit m → AreFreeSlots m a.owned.slots → Leads (keys_of a m) m
 keys_lead limit a m w f = lead_actions limit m w (keys_of a m) a.owned.contexts a.owned.slots a.request.actions f.no_terminations (λ k h. h)

@@ -6,7 +6,7 @@ use Rattle.gw_base.specs.declared.key.Key.{Key}
 use Rattle.gw_base.proofs.NamesInLists.{or_cases, or_left, or_right, either}
 use Rattle.gw_table.specs.Maps.{Maps}
 use Rattle.gw_foot.specs.Meets.{meets}
-use Rattle.gw_board.specs.Carried.{Asked, keys_of}
+use Rattle.gw_board.specs.Carried.{BurstRequest, keys_of}
 use Rattle.gw_board.specs.Core.{Standing, Pending, Opened, Closed, Place, Core, pending}
 use Rattle.gw_board.specs.Waves.{is_pending, meets_pending, is_free, wave, IsMet}
 
@@ -30,7 +30,7 @@ earlier_one (y ∷ ys) (suc i) (suc j) x e = let h : IsEarlier ys i j x = earlie
 
 -- ---- a place that is free is in the wave
 
-other : (i a : ℕ) → a ≤ i → nat_eq i a ≡ false → a + 1 ≤ i
+pub other : (i a : ℕ) → a ≤ i → nat_eq i a ≡ false → a + 1 ≤ i
 other i a low e =
     let differ : i ≡ a → ⊥ = λ s. let clash : true ≡ false = sym (eq-eqb i a s) ∙ e in cc in
     omega (arith, low, differ)
@@ -46,7 +46,7 @@ found test (suc n) a i low high t = by (nat_eq i a) refl (test a) refl (λ e. fo
     by false e true f later = or_right (nat_eq i a) (list_any (nat_eq i) (filter test (range_with_len (a + 1) n))) (later e)
     by false e false f later = later e
 
-pub free_is_in : (s : Core) (i : ℕ) (a : Asked) → slice_get s.places i ≡ Some (pending a) → meets_pending (keys_of a s.maps) s.maps (take i s.places) ≡ false → list_any (nat_eq i) (wave s) ≡ true
+pub free_is_in : (s : Core) (i : ℕ) (a : BurstRequest) → slice_get s.places i ≡ Some (pending a) → meets_pending (keys_of a s.maps) s.maps (take i s.places) ≡ false → list_any (nat_eq i) (wave s) ≡ true
 free_is_in s i a e h =
     found (λ k. is_free s.maps (take k s.places) (slice_get s.places k)) (length s.places) 0 i (omega arith) (omega (arith, below s.places i (pending a) e))
     (ap (is_free s.maps (take i s.places)) e ∙ ap (λ b. not b) h)
@@ -55,40 +55,40 @@ free_is_in s i a e h =
 
 record IsMetAt (keys : List Key) (m : Maps) (places : List Place) : Type 0 where
   place : ℕ
-  asked : Asked
-  pends : slice_get places place ≡ Some (pending asked)
-  met : meets (keys_of asked m) keys ≡ true
+  requested : BurstRequest
+  pends : slice_get places place ≡ Some (pending requested)
+  met : meets (keys_of requested m) keys ≡ true
 
 met_one : (keys : List Key) (m : Maps) (places : List Place) → meets_pending keys m places ≡ true → IsMetAt keys m places
 met_one keys m [] h = absurd cc
-met_one keys m (p ∷ ps) h = either (or_cases (is_pending p.standing && meets (keys_of p.asked m) keys) (meets_pending keys m ps) h) (λ i. here p.standing refl i) (λ i. behind (met_one keys m ps i))
+met_one keys m (p ∷ ps) h = either (or_cases (is_pending p.standing && meets (keys_of p.requested m) keys) (meets_pending keys m ps) h) (λ i. here p.standing refl i) (λ i. behind (met_one keys m ps i))
   where
-    here : (x : Standing) → p.standing ≡ x → (is_pending x && meets (keys_of p.asked m) keys) ≡ true → IsMetAt keys m (p ∷ ps)
-    here Pending e i = record { place = 0; asked = p.asked; pends = λ k. Some (record { asked = p.asked; standing = e k }); met = i }
+    here : (x : Standing) → p.standing ≡ x → (is_pending x && meets (keys_of p.requested m) keys) ≡ true → IsMetAt keys m (p ∷ ps)
+    here Pending e i = record { place = 0; requested = p.requested; pends = λ k. Some (record { requested = p.requested; standing = e k }); met = i }
     here (Opened j) e i = absurd cc
     here (Closed reply) e i = absurd cc
 
     behind : IsMetAt keys m ps → IsMetAt keys m (p ∷ ps)
-    behind i = record { place = suc i.place; asked = i.asked; pends = i.pends; met = i.met }
+    behind i = record { place = suc i.place; requested = i.requested; pends = i.pends; met = i.met }
 
-pub left_out : (s : Core) (i : ℕ) (a : Asked) → slice_get s.places i ≡ Some (pending a) → list_any (nat_eq i) (wave s) ≡ false → (j : ℕ) × IsMet s (keys_of a s.maps) i j
+pub left_out : (s : Core) (i : ℕ) (a : BurstRequest) → slice_get s.places i ≡ Some (pending a) → list_any (nat_eq i) (wave s) ≡ false → (j : ℕ) × IsMet s (keys_of a s.maps) i j
 left_out s i a e out = by (meets_pending (keys_of a s.maps) s.maps (take i s.places)) refl
   where
     by : (b : Bool) → meets_pending (keys_of a s.maps) s.maps (take i s.places) ≡ b → (j : ℕ) × IsMet s (keys_of a s.maps) i j
     by false h = absurd (let clash : true ≡ false = sym (free_is_in s i a e h) ∙ out in cc)
     by true h =
         let met : IsMetAt (keys_of a s.maps) s.maps (take i s.places) = met_one (keys_of a s.maps) s.maps (take i s.places) h in
-        let one : IsEarlier s.places i met.place (pending met.asked) = earlier_one s.places i met.place (pending met.asked) met.pends in
-        (met.place, record { earlier = one.before; asked = met.asked; pends = one.stands; met = met.met })
+        let one : IsEarlier s.places i met.place (pending met.requested) = earlier_one s.places i met.place (pending met.requested) met.pends in
+        (met.place, record { earlier = one.before; requested = met.requested; pends = one.stands; met = met.met })
 
 -- the first pending place is in it
-none_pending : (keys : List Key) (m : Maps) (places : List Place) → list_any (λ p. is_pending p.standing) places ≡ false → meets_pending keys m places ≡ false
+pub none_pending : (keys : List Key) (m : Maps) (places : List Place) → list_any (λ p. is_pending p.standing) places ≡ false → meets_pending keys m places ≡ false
 none_pending keys m [] h = refl
 none_pending keys m (p ∷ ps) h = by (is_pending p.standing) h (none_pending keys m ps)
   where
-    by : (b : Bool) → (b || list_any (λ p. is_pending p.standing) ps) ≡ false → (list_any (λ p. is_pending p.standing) ps ≡ false → meets_pending keys m ps ≡ false) → ((b && meets (keys_of p.asked m) keys) || meets_pending keys m ps) ≡ false
+    by : (b : Bool) → (b || list_any (λ p. is_pending p.standing) ps) ≡ false → (list_any (λ p. is_pending p.standing) ps ≡ false → meets_pending keys m ps ≡ false) → ((b && meets (keys_of p.requested m) keys) || meets_pending keys m ps) ≡ false
     by true e f = absurd cc
     by false e f = f e
 
-pub first_is_in : (s : Core) (i : ℕ) (a : Asked) → slice_get s.places i ≡ Some (pending a) → list_any (λ p. is_pending p.standing) (take i s.places) ≡ false → list_any (nat_eq i) (wave s) ≡ true
+pub first_is_in : (s : Core) (i : ℕ) (a : BurstRequest) → slice_get s.places i ≡ Some (pending a) → list_any (λ p. is_pending p.standing) (take i s.places) ≡ false → list_any (nat_eq i) (wave s) ≡ true
 first_is_in s i a e h = free_is_in s i a e (none_pending (keys_of a s.maps) s.maps (take i s.places) h)

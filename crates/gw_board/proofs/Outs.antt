@@ -30,9 +30,9 @@ module _ {X : Type 0} where
   outside true x h = absurd cc
   outside false x h = refl
 
-  shown : (b : Bool) (x y : Option X) → (b ≡ true → x ≡ y) → cond b x None ≡ cond b y None
-  shown true x y f = f refl
-  shown false x y f = refl
+  visible : (b : Bool) (x y : Option X) → (b ≡ true → x ≡ y) → cond b x None ≡ cond b y None
+  visible true x y f = f refl
+  visible false x y f = refl
 
 -- what is out in two steps
 pub cut_more : (k o l : List Key) (m : Maps) → ((q : Key) → has l q ≡ (has k q || has o q)) → cut k (cut o m) ≡ cut l m
@@ -55,8 +55,8 @@ cut_none o m h = same_maps (cut o m) m
 
 pub restricted_alike : (k : List Key) (m n : Maps) → Agree k m n → restricted k m ≡ restricted k n
 restricted_alike k m n g = same_maps (restricted k m) (restricted k n)
-    (λ q. term-restricted k m q ∙ shown (has k (Term q)) (term m q) (term n q) (g.terms q) ∙ sym (term-restricted k n q))
-    (λ q. ctx-restricted k m q ∙ shown (has k (Ctx q)) (ctx m q) (ctx n q) (g.contexts q) ∙ sym (ctx-restricted k n q))
+    (λ q. term-restricted k m q ∙ visible (has k (Term q)) (term m q) (term n q) (g.terms q) ∙ sym (term-restricted k n q))
+    (λ q. ctx-restricted k m q ∙ visible (has k (Ctx q)) (ctx m q) (ctx n q) (g.contexts q) ∙ sym (ctx-restricted k n q))
 
 pub agree_turned : (k : List Key) (m n : Maps) → Agree k m n → Agree k n m
 agree_turned k m n g = record { terms = λ t h. sym (g.terms t h); contexts = λ c h. sym (g.contexts c h); whole = λ h. sym (g.whole h) }

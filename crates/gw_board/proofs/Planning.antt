@@ -56,16 +56,16 @@ abbrev pub AreThose : Core → ℕ → Waiting → Type 0
 AreThose s n waiting = (k : List Key) → meet_waiting waiting k ≡ meets_pending k s.maps (take n s.places)
 
 pub those_more : (s : Core) (n : ℕ) (p : Place) (waiting new : Waiting) → slice_get s.places n ≡ Some p → AreThose s n waiting
-    → ((k : List Key) → meet_waiting new k ≡ (meet_waiting waiting k || (is_pending p.standing && meets (keys_of p.asked s.maps) k))) → AreThose s (suc n) new
+    → ((k : List Key) → meet_waiting new k ≡ (meet_waiting waiting k || (is_pending p.standing && meets (keys_of p.requested s.maps) k))) → AreThose s (suc n) new
 those_more s n p waiting new e h f k =
     f k
-    ∙ ap (λ b. b || (is_pending p.standing && meets (keys_of p.asked s.maps) k)) (h k)
-    ∙ sym (any-take_more (λ (q : Place). is_pending q.standing && meets (keys_of q.asked s.maps) k) s.places n p e)
+    ∙ ap (λ b. b || (is_pending p.standing && meets (keys_of p.requested s.maps) k)) (h k)
+    ∙ sym (any-take_more (λ (q : Place). is_pending q.standing && meets (keys_of q.requested s.maps) k) s.places n p e)
 
 pub free_is : (s : Core) (n : ℕ) (p : Place) (waiting : Waiting) (free : Bool) → slice_get s.places n ≡ Some p → AreThose s n waiting
-    → free ≡ (is_pending p.standing && not (meet_waiting waiting (keys_of p.asked s.maps))) → free ≡ free_at s n
+    → free ≡ (is_pending p.standing && not (meet_waiting waiting (keys_of p.requested s.maps))) → free ≡ free_at s n
 free_is s n p waiting free e h f =
-    f ∙ ap (λ b. is_pending p.standing && not b) (h (keys_of p.asked s.maps)) ∙ ap (is_free s.maps (take n s.places)) (sym e)
+    f ∙ ap (λ b. is_pending p.standing && not b) (h (keys_of p.requested s.maps)) ∙ ap (is_free s.maps (take n s.places)) (sym e)
 
 -- ---- behind a place that has the whole of the tables
 
@@ -82,12 +82,12 @@ pub none_behind : (s : Core) (n : ℕ) (waiting : Waiting) → AreThose s n wait
 none_behind s n waiting h w i l = by (slice_get s.places i)
   where
     met : (k : List Key) → meets_pending k s.maps (take i s.places) ≡ true
-    met k = any-take_later (λ (q : Place). is_pending q.standing && meets (keys_of q.asked s.maps) k) s.places n i l
+    met k = any-take_later (λ (q : Place). is_pending q.standing && meets (keys_of q.requested s.maps) k) s.places n i l
         (sym (h k) ∙ (λ j. w j || (waiting.is_any && has k Whole) || list_any (is_waiting waiting) k))
 
     by : (o : Option Place) → is_free s.maps (take i s.places) o ≡ false
     by None = refl
-    by (Some p) = ap (λ b. is_pending p.standing && not b) (met (keys_of p.asked s.maps)) ∙ and_false (is_pending p.standing)
+    by (Some p) = ap (λ b. is_pending p.standing && not b) (met (keys_of p.requested s.maps)) ∙ and_false (is_pending p.standing)
 
 -- ---- a place with its keys
 
@@ -95,18 +95,18 @@ pub placed : (i : ℕ) (found : Option (List Key)) → map (λ (p : Planned). p.
 placed i None = refl
 placed i (Some keys) = refl
 
-pending_if : (p : Place) → is_pending p.standing ≡ true → p ≡ pending p.asked
+pending_if : (p : Place) → is_pending p.standing ≡ true → p ≡ pending p.requested
 pending_if p h = by p.standing refl h
   where
-    by : (x : Standing) → p.standing ≡ x → is_pending x ≡ true → p ≡ pending p.asked
-    by Pending e h = λ k. record { asked = p.asked; standing = e k }
+    by : (x : Standing) → p.standing ≡ x → is_pending x ≡ true → p ≡ pending p.requested
+    by Pending e h = λ k. record { requested = p.requested; standing = e k }
     by (Opened j) e h = absurd cc
     by (Closed reply) e h = absurd cc
 
 pub reckoned : (b : Seen) (i : ℕ) (p : Place) (found : Option (List Key)) (free : Bool) → slice_get b.places i ≡ Some p → is_some found ≡ (is_pending p.standing && free)
-    → IfSome found (AreKeysOf p.asked b.maps) → Each (IsReckoned b) (planned_with i found)
+    → IfSome found (AreKeysOf p.requested b.maps) → Each (IsReckoned b) (planned_with i found)
 reckoned b i p None free e f g = tt
-reckoned b i p (Some keys) free e f g = (record { asked = p.asked; pends = e ∙ ap (λ x. Some x) (pending_if p (both (is_pending p.standing) free (sym f)).0); listed = g }, tt)
+reckoned b i p (Some keys) free e f g = (record { requested = p.requested; pends = e ∙ ap (λ x. Some x) (pending_if p (both (is_pending p.standing) free (sym f)).0); listed = g }, tt)
 
 pub each-append : {X : Type 0} (P : X → Type 0) (xs ys : List X) → Each P xs → Each P ys → Each P (xs ++ ys)
 each-append P [] ys h g = g

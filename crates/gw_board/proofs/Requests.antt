@@ -1,7 +1,7 @@
 -- One request, and another one after it.
 use Rattle.std.proofs.Common.{◌≡◌, ℕ, ◌<◌, List, ◌++◌, None, ap, get_or, arith}
 use Rattle.std.specs.Prelude.{All}
-use Rattle.gw_board.specs.declared.manner.Manner.{Manner}
+use Rattle.gw_board.specs.declared.profile.Profile.{Profile}
 use Rattle.gw_base.specs.Keys.{Among, AreApart}
 use Rattle.gw_reply.specs.Messages.{reply_text}
 use Rattle.gw_table.specs.Locality.{KeepsTo, ChangePlaces}
@@ -17,46 +17,46 @@ use Rattle.gw_tx.proofs.Kept.{kept_actions}
 use Rattle.gw_tx.proofs.Unowned.{any_of}
 use Rattle.gw_foot.specs.OwnsUnused.{OwnsUnused, OwnOthers}
 use Rattle.gw_foot.proofs.WithOthers as foot
-use Rattle.gw_board.specs.Carried.{Asked, keys_of, done}
+use Rattle.gw_board.specs.Carried.{BurstRequest, keys_of, done}
 
-own : (a : Asked) (m : Maps) → AreFreeSlots m a.owned.slots → OwnsUnused m a.request (paired a.request a.owned)
+own : (a : BurstRequest) (m : Maps) → AreFreeSlots m a.owned.slots → OwnsUnused m a.request (paired a.request a.owned)
 own a m f = foot.entries_unused a.request a.owned m f
 
-module _ (manner : Manner) (a : Asked) (m : Maps) (w : AreWellFormed manner.rules.members m) (f : AreFreeSlots m a.owned.slots) where
+module _ (profile : Profile) (a : BurstRequest) (m : Maps) (w : AreWellFormed profile.rules.members m) (f : AreFreeSlots m a.owned.slots) where
   abbrev owners : List OwnedAction
   owners = paired a.request a.owned
 
-  keeps_told : KeepsTo (keys_of a m) (paired_transaction manner.rules a.request owners) m
-  keeps_told = foot.request_keeps manner.rules a.request owners m w (own a m f)
+  keeps_told : KeepsTo (keys_of a m) (paired_transaction profile.rules a.request owners) m
+  keeps_told = foot.request_keeps profile.rules a.request owners m w (own a m f)
 
-  pub keeps : KeepsTo (keys_of a m) (done manner a) m
+  pub keeps : KeepsTo (keys_of a m) (done profile a) m
   keeps = record {
-    answer = ap (reply_text manner.mid) keeps_told.answer;
+    answer = ap (reply_text profile.mid) keeps_told.answer;
     maps = keeps_told.maps;
     terms = keeps_told.terms;
     contexts = keeps_told.contexts;
   }
 
-  pub well_after : AreWellFormed manner.rules.members (done manner a m).maps
-  well_after = foot.request_whole manner.rules a.request owners m w (own a m f)
+  pub well_after : AreWellFormed profile.rules.members (done profile a m).maps
+  well_after = foot.request_whole profile.rules a.request owners m w (own a m f)
 
-  pub keys_grow : (b : Asked) → Among (keys_of b (done manner a m).maps) (keys_of a m ++ keys_of b m)
-  keys_grow b = foot.keys_after manner.rules a.request owners m w (own a m f) (paired b.request b.owned)
+  pub keys_grow : (b : BurstRequest) → Among (keys_of b (done profile a m).maps) (keys_of a m ++ keys_of b m)
+  keys_grow b = foot.keys_after profile.rules a.request owners m w (own a m f) (paired b.request b.owned)
 
-  pub keys_stay : (b : Asked) → AreApart (keys_of a m) (keys_of b m) → keys_of b (done manner a m).maps ≡ keys_of b m
-  keys_stay b h = foot.keys_stay manner.rules a.request owners m w (own a m f) (paired b.request b.owned) h
+  pub keys_stay : (b : BurstRequest) → AreApart (keys_of a m) (keys_of b m) → keys_of b (done profile a m).maps ≡ keys_of b m
+  keys_stay b h = foot.keys_stay profile.rules a.request owners m w (own a m f) (paired b.request b.owned) h
 
-  pub change : (b : Asked) → AreFreeSlots m b.owned.slots → AreApart (keys_of a m) (keys_of b m) → ChangePlaces (done manner a) (done manner b) m
+  pub change : (b : BurstRequest) → AreFreeSlots m b.owned.slots → AreApart (keys_of a m) (keys_of b m) → ChangePlaces (done profile a) (done profile b) m
   change b g h =
-      let told = foot.requests_change manner.rules m a.request owners b.request (paired b.request b.owned) w (own a m f) (own b m g) h in
-      record { first = ap (reply_text manner.mid) told.first; second = ap (reply_text manner.mid) told.second; maps = told.maps }
+      let limited_text = foot.requests_change profile.rules m a.request owners b.request (paired b.request b.owned) w (own a m f) (own b m g) h in
+      record { first = ap (reply_text profile.mid) limited_text.first; second = ap (reply_text profile.mid) limited_text.second; maps = limited_text.maps }
 
   -- a slot with another name than each of its own
-  named_free : (t : ℕ) → All (IsNamedOtherThan t) (owned a.owned.slots) → term m (slot_name t) ≡ None → term (done manner a m).maps (slot_name t) ≡ None
+  named_free : (t : ℕ) → All (IsNamedOtherThan t) (owned a.owned.slots) → term m (slot_name t) ≡ None → term (done profile a m).maps (slot_name t) ≡ None
   unfolding paired_transaction
-  named_free t other none = kept_actions manner.rules (commands_keep_free manner.rules t) a.owned.contexts a.owned.slots a.request.actions m (any_of owners) (record { kept = none; free = f; kind = other })
+  named_free t other none = kept_actions profile.rules (commands_keep_free profile.rules t) a.owned.contexts a.owned.slots a.request.actions m (any_of owners) (record { kept = none; free = f; kind = other })
 
-  pub stays_free : (b : Asked) → AreFreeSlots m b.owned.slots → OwnOthers a.owned.slots b.owned.slots → AreFreeSlots (done manner a m).maps b.owned.slots
+  pub stays_free : (b : BurstRequest) → AreFreeSlots m b.owned.slots → OwnOthers a.owned.slots b.owned.slots → AreFreeSlots (done profile a m).maps b.owned.slots
   stays_free b g differ = record {
     numbers_apart = g.numbers_apart;
     no_contexts = λ k d h. absurd (omega arith);

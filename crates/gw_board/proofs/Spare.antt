@@ -1,14 +1,13 @@
 -- Keys that are prepared without an entry: none but those of the journal and of open jobs, where there was none at the start.
-use Rattle.std.proofs.Common.{◌≡◌, ℕ, Bool, true, false, cond, List, [], ◌∷◌, ◌++◌, Option, None, Some, is_some, refl, sym, ap, ◌∙◌}
-use Rattle.std.specs.Prelude.{◌||◌, slice_get, slice_set}
-use Rattle.gw_base.specs.declared.ids.CtxNum.{CtxNum}
+use Rattle.std.proofs.Common.{◌≡◌, ℕ, Bool, true, false, cond, List, [], ◌∷◌, ◌++◌, None, Some, is_some, refl, sym, ap, ◌∙◌}
+use Rattle.std.specs.Prelude.{◌||◌, slice_get}
 use Rattle.gw_base.specs.declared.key.Key.{Key}
 use Rattle.gw_base.specs.declared.key.Key.TheVariants.{Term, Ctx, Whole}
 use Rattle.gw_base.specs.Keys.{has}
 use Rattle.gw_base.proofs.Booleans.{neither}
-use Rattle.gw_table.specs.declared.originals.Write.{Write}
+use Rattle.gw_table.specs.declared.undo_log.Write.{Write}
 use Rattle.gw_table.specs.Maps.{Maps, term, ctx}
-use Rattle.gw_table.specs.Originals.{keys_written, undone as taken}
+use Rattle.gw_table.specs.UndoLog.{keys_written, undone as taken}
 use Rattle.gw_table.specs.Parts.{cut, overlaid}
 use Rattle.gw_table.specs.Stored.{Stored, maps_of, is_ready, has_entry, AreAsReady, AreSwept, AreSweptAmong, KeepReady, NoOtherReady}
 use Rattle.gw_table.proofs.PartLookups.{term-cut, ctx-cut, term-overlaid, ctx-overlaid}
@@ -16,13 +15,13 @@ use Rattle.gw_table.proofs.Swept.{both_or_none, entry_ready, still_swept}
 use Rattle.gw_table.proofs.Undone.{entry-undone}
 use Rattle.gw_board.specs.Alone.{TakesLast, Off, Fresh}
 use Rattle.gw_board.specs.BoardView.{NoneIsSpare}
-use Rattle.gw_board.specs.Boards.{Seen, Handed, HasOpen, core_of, job_of, original_in, with_open, with_result, outcome_of}
-use Rattle.gw_board.specs.Carried.{Asked}
+use Rattle.gw_board.specs.Boards.{Seen, Handed, HasOpen, core_of, job_of, undo_step_in, with_open, with_result, outcome_of}
+use Rattle.gw_board.specs.Carried.{BurstRequest}
 use Rattle.gw_board.specs.Core.{Place, pending, open_with, closed_with}
 use Rattle.gw_board.specs.Fitting.{Each, out}
-use Rattle.gw_board.specs.Journal.{Original, in_journal}
+use Rattle.gw_board.specs.Journal.{UndoStep, in_journal}
 use Rattle.gw_board.specs.Results.{NothingIsOpen}
-use Rattle.gw_board.specs.Seats.{original_of_writes}
+use Rattle.gw_board.specs.BoardEntries.{undo_step_of_writes}
 use Rattle.gw_board.proofs.Comes.{out_of_none}
 use Rattle.gw_board.proofs.KeptIn.{others, was_out, now_out}
 use Rattle.gw_board.proofs.Orders.{each_map}
@@ -37,18 +36,18 @@ or_none : (b : Bool) → (b || false) ≡ b
 or_none true = refl
 or_none false = refl
 
-journal_more : (originals : List Original) (o : Original) (k : Key) → in_journal (originals ++ o ∷ []) k ≡ (in_journal originals k || has o.keys k)
+journal_more : (undo_log : List UndoStep) (o : UndoStep) (k : Key) → in_journal (undo_log ++ o ∷ []) k ≡ (in_journal undo_log k || has o.keys k)
 journal_more [] o k = or_none (has o.keys k)
 journal_more (p ∷ ps) o k = ap (λ b. has p.keys k || b) (journal_more ps o k) ∙ one_more (has p.keys k) (in_journal ps k) (has o.keys k)
 
 -- an original without keys that was taken off
-took_journal : (before after : List Original) (last : Original) → TakesLast before after last → last.keys ≡ [] → (k : Key) → in_journal after k ≡ false → in_journal before k ≡ false
+took_journal : (before after : List UndoStep) (last : UndoStep) → TakesLast before after last → last.keys ≡ [] → (k : Key) → in_journal after k ≡ false → in_journal before k ≡ false
 took_journal before after last (Off e) none k h =
-    ap (λ (l : List Original). in_journal l k) e ∙ journal_more after last k ∙ ap (λ b. b || has last.keys k) h ∙ ap (λ (l : List Key). has l k) none
-took_journal before after last (Fresh e f) none k h = ap (λ (l : List Original). in_journal l k) (sym e) ∙ h
+    ap (λ (l : List UndoStep). in_journal l k) e ∙ journal_more after last k ∙ ap (λ b. b || has last.keys k) h ∙ ap (λ (l : List Key). has l k) none
+took_journal before after last (Fresh e f) none k h = ap (λ (l : List UndoStep). in_journal l k) (sym e) ∙ h
 
 -- each key of the journal was swept
-among : (originals : List Original) (t : Stored) → Each (λ o. AreSweptAmong o.keys t) originals → (k : Key) → in_journal originals k ≡ true → is_ready t k ≡ has_entry (maps_of t) k
+among : (undo_log : List UndoStep) (t : Stored) → Each (λ o. AreSweptAmong o.keys t) undo_log → (k : Key) → in_journal undo_log k ≡ true → is_ready t k ≡ has_entry (maps_of t) k
 among [] t each k h = absurd cc
 among (o ∷ os) t each k h = by (has o.keys k) refl h (among os t each.1 k)
   where
@@ -56,12 +55,12 @@ among (o ∷ os) t each k h = by (has o.keys k) refl h (among os t each.1 k)
     by true e g later = each.0 k e
     by false e g later = later g
 
-pub all_swept : (originals : List Original) (t : Stored) → AreSwept t → Each (λ o. AreSweptAmong o.keys t) originals
+pub all_swept : (undo_log : List UndoStep) (t : Stored) → AreSwept t → Each (λ o. AreSweptAmong o.keys t) undo_log
 all_swept [] t h = tt
 all_swept (o ∷ os) t h = ((λ k e. h k), all_swept os t h)
 
-pub swept_on : (originals : List Original) (s t : Stored) → maps_of t ≡ maps_of s → KeepReady t s → Each (λ o. AreSweptAmong o.keys s) originals → Each (λ o. AreSweptAmong o.keys t) originals
-swept_on originals s t same fewer h = each_map {P = λ o. AreSweptAmong o.keys s} {Q = λ o. AreSweptAmong o.keys t} (λ o g. still_swept o.keys s t same fewer g) originals h
+pub swept_on : (undo_log : List UndoStep) (s t : Stored) → maps_of t ≡ maps_of s → KeepReady t s → Each (λ o. AreSweptAmong o.keys s) undo_log → Each (λ o. AreSweptAmong o.keys t) undo_log
+swept_on undo_log s t same fewer h = each_map {P = λ o. AreSweptAmong o.keys s} {Q = λ o. AreSweptAmong o.keys t} (λ o g. still_swept o.keys s t same fewer g) undo_log h
 
 -- ---- entries at other keys stay
 
@@ -77,40 +76,40 @@ entry_overlaid keys part m Whole h = refl
 
 -- ---- the steps of a board
 
-pub begun_spare : (start t : Stored) (originals : List Original) (places : List Place) → start ≡ t → NoneIsSpare start t originals places
-begun_spare start t originals places e swept k j o r = ap (λ (s : Stored). has_entry (maps_of s) k) (sym e) ∙ sym (swept k) ∙ ap (λ (s : Stored). is_ready s k) e ∙ r
+pub begun_spare : (start t : Stored) (undo_log : List UndoStep) (places : List Place) → start ≡ t → NoneIsSpare start t undo_log places
+begun_spare start t undo_log places e swept k j o r = ap (λ (s : Stored). has_entry (maps_of s) k) (sym e) ∙ sym (swept k) ∙ ap (λ (s : Stored). is_ready s k) e ∙ r
 
 -- of what was swept, none is
-pub swept_spare : (start t : Stored) (originals : List Original) (places : List Place) → AreSwept t → NoneIsSpare start t originals places
-swept_spare start t originals places now swept k j o r = sym (now k) ∙ r
+pub swept_spare : (start t : Stored) (undo_log : List UndoStep) (places : List Place) → AreSwept t → NoneIsSpare start t undo_log places
+swept_spare start t undo_log places now swept k j o r = sym (now k) ∙ r
 
-pub open_spare : (b : Seen) (i : ℕ) (a : Asked) (keys : List Key) (s t : Stored) → slice_get b.places i ≡ Some (pending a) → NoOtherReady keys s t → maps_of t ≡ cut keys (maps_of s)
-    → NoneIsSpare b.start s b.originals b.places → NoneIsSpare b.start t b.originals (with_open b i a keys).places
+pub open_spare : (b : Seen) (i : ℕ) (a : BurstRequest) (keys : List Key) (s t : Stored) → slice_get b.places i ≡ Some (pending a) → NoOtherReady keys s t → maps_of t ≡ cut keys (maps_of s)
+    → NoneIsSpare b.start s b.undo_log b.places → NoneIsSpare b.start t b.undo_log (with_open b i a keys).places
 open_spare b i a keys s t e alone maps spare swept k j o r =
     let both = neither (has keys k) (has (out (others b.places i (pending a) e)) k) (sym (now_out b.places i (pending a) e (open_with a _) k) ∙ o) in
     ap (λ m. has_entry m k) maps ∙ entry_cut keys (maps_of s) k both.0 ∙ spare swept k j (was_out b.places i (pending a) e k ∙ both.1) (alone k both.0 r)
 
 pub result_spare : (b : Seen) (h : Handed) → HasOpen b h → (s t : Stored) (part : Maps) → AreAsReady s t → maps_of t ≡ overlaid h.keys part (maps_of s)
-    → NoneIsSpare b.start s b.originals b.places → NoneIsSpare b.start t (with_result b h).originals (with_result b h).places
+    → NoneIsSpare b.start s b.undo_log b.places → NoneIsSpare b.start t (with_result b h).undo_log (with_result b h).places
 result_spare b h o s t part same maps spare swept k j u r =
-    let x : Place = open_with h.asked (job_of h) in
-    let old = neither (in_journal b.originals k) (has h.keys k) (sym (journal_more b.originals (original_in h) k) ∙ j) in
-    let beside = sym (now_out b.places h.place x o.stands (closed_with h.asked (outcome_of h).answer) k) ∙ u in
+    let x : Place = open_with h.requested (job_of h) in
+    let old = neither (in_journal b.undo_log k) (has h.keys k) (sym (journal_more b.undo_log (undo_step_in h) k) ∙ j) in
+    let beside = sym (now_out b.places h.place x o.stands (closed_with h.requested (outcome_of h).answer) k) ∙ u in
     ap (λ m. has_entry m k) maps ∙ entry_overlaid h.keys part (maps_of s) k old.1
     ∙ spare swept k old.0 (was_out b.places h.place x o.stands k ∙ ap (λ y. y || has (out (others b.places h.place x o.stands)) k) old.1 ∙ beside) (sym (same k) ∙ r)
 
-pub alone_spare : (b : Seen) → NothingIsOpen (core_of b) → (front : List Original) (earlier ws : List Write) (s t : Stored) → TakesLast b.originals front (original_of_writes earlier) → earlier ≡ []
-    → NoOtherReady (keys_written ws) s t → taken ws (maps_of t) ≡ maps_of s → NoneIsSpare b.start s b.originals b.places → (places : List Place) → NoneIsSpare b.start t (front ++ original_of_writes ws ∷ []) places
+pub alone_spare : (b : Seen) → NothingIsOpen (core_of b) → (front : List UndoStep) (earlier ws : List Write) (s t : Stored) → TakesLast b.undo_log front (undo_step_of_writes earlier) → earlier ≡ []
+    → NoOtherReady (keys_written ws) s t → taken ws (maps_of t) ≡ maps_of s → NoneIsSpare b.start s b.undo_log b.places → (places : List Place) → NoneIsSpare b.start t (front ++ undo_step_of_writes ws ∷ []) places
 alone_spare b nothing front earlier ws s t last none alone back spare places swept k j o r =
-    let parts = neither (in_journal front k) (has (keys_written ws) k) (sym (journal_more front (original_of_writes ws) k) ∙ j) in
+    let parts = neither (in_journal front k) (has (keys_written ws) k) (sym (journal_more front (undo_step_of_writes ws) k) ∙ j) in
     sym (entry-undone ws (maps_of t) k parts.1) ∙ ap (λ m. has_entry m k) back
-    ∙ spare swept k (took_journal b.originals front (original_of_writes earlier) last (ap keys_written none) k parts.0) (out_of_none b.places nothing k) (alone k parts.1 r)
+    ∙ spare swept k (took_journal b.undo_log front (undo_step_of_writes earlier) last (ap keys_written none) k parts.0) (out_of_none b.places nothing k) (alone k parts.1 r)
 
-pub finished : (start s t : Stored) (originals : List Original) (places : List Place) (all : Bool) → maps_of t ≡ maps_of s → ((k : Key) → has (out places) k ≡ false) → KeepReady t s
-    → (all ≡ true → AreSwept t) → Each (λ o. AreSweptAmong o.keys t) originals → (all ≡ false → NoneIsSpare start s originals places) → AreSwept start → AreSwept t
-finished start s t originals places true same none fewer at_once each spare swept k = at_once refl k
-finished start s t originals places false same none fewer at_once each spare swept k = by (in_journal originals k) refl
+pub finished : (start s t : Stored) (undo_log : List UndoStep) (places : List Place) (all : Bool) → maps_of t ≡ maps_of s → ((k : Key) → has (out places) k ≡ false) → KeepReady t s
+    → (all ≡ true → AreSwept t) → Each (λ o. AreSweptAmong o.keys t) undo_log → (all ≡ false → NoneIsSpare start s undo_log places) → AreSwept start → AreSwept t
+finished start s t undo_log places true same none fewer at_once each spare swept k = at_once refl k
+finished start s t undo_log places false same none fewer at_once each spare swept k = by (in_journal undo_log k) refl
   where
-    by : (b : Bool) → in_journal originals k ≡ b → is_ready t k ≡ has_entry (maps_of t) k
-    by true e = among originals t each k e
+    by : (b : Bool) → in_journal undo_log k ≡ b → is_ready t k ≡ has_entry (maps_of t) k
+    by true e = among undo_log t each k e
     by false e = both_or_none (is_ready t k) (has_entry (maps_of t) k) (λ r. ap (λ m. has_entry m k) same ∙ spare refl swept k e (none k) (fewer k r)) (entry_ready t k)

@@ -2,7 +2,7 @@
 use Rattle.std.proofs.Common.{◌≡◌, ℕ, ◌+◌, ◌<◌, false, List, [], ◌∷◌, ◌++◌, map, None, length, refl, sym, ap, subst, ◌∙◌, arith, get_or-append-add}
 use Rattle.std.specs.Prelude.{◌≢◌, All, AllPairs}
 use Rattle.std.proofs.lemmas.List.{length-append, get_or_append_left, get_or_default}
-use Rattle.gw_board.specs.declared.manner.Manner.{Manner}
+use Rattle.gw_board.specs.declared.profile.Profile.{Profile}
 use Rattle.gw_base.specs.declared.key.Key.{Key}
 use Rattle.gw_base.specs.Keys.{has}
 use Rattle.gw_board.specs.Texts.{Text}
@@ -12,7 +12,7 @@ use Rattle.gw_table.specs.Reserved.{slot_name}
 use Rattle.gw_table.specs.Unused.{owned, AreUnused}
 use Rattle.gw_tx.proofs.Unowned.{front_unused}
 use Rattle.gw_foot.specs.OwnsUnused.{OwnOthers}
-use Rattle.gw_board.specs.Carried.{Asked, done, carried}
+use Rattle.gw_board.specs.Carried.{BurstRequest, done, carried}
 use Rattle.gw_board.specs.Core.{pending}
 use Rattle.gw_board.specs.Results.{carried_on, slots_of}
 use Rattle.gw_board.proofs.Outs.{cut_none}
@@ -46,31 +46,31 @@ behind_unused m front later u = record {
   slots_small = all_behind (λ s. s < 4096) front later u.slots_small;
 }
 
-each_other : (mine : List ℕ) (more : List Asked) → All (λ t. All (λ s. s ≢ t) mine) (slots_of more) → Each (λ b. All (λ t. All (λ s. s ≢ t) mine) (owned b.owned.slots)) more
+each_other : (mine : List ℕ) (more : List BurstRequest) → All (λ t. All (λ s. s ≢ t) mine) (slots_of more) → Each (λ b. All (λ t. All (λ s. s ≢ t) mine) (owned b.owned.slots)) more
 each_other mine [] h = tt
 each_other mine (b ∷ more) h =
     (all_front (λ t. All (λ s. s ≢ t) mine) (owned b.owned.slots) (slots_of more) h, each_other mine more (all_behind (λ t. All (λ s. s ≢ t) mine) (owned b.owned.slots) (slots_of more) h))
 
-each_pending : (m : Maps) (a : Asked) (more : List Asked) → Each (λ b. OwnOthers a.owned.slots b.owned.slots) more → Each (Beside m (pending a)) (map pending more)
+each_pending : (m : Maps) (a : BurstRequest) (more : List BurstRequest) → Each (λ b. OwnOthers a.owned.slots b.owned.slots) more → Each (Beside m (pending a)) (map pending more)
 each_pending m a [] h = tt
 each_pending m a (b ∷ more) h = (record { differ = h.0; apart = tt }, each_pending m a more h.1)
 
 -- ---- the start
 
-pub stand_start : (manner : Manner) (m : Maps) (asked : List Asked) → AreUnused m [] (slots_of asked) → Stand manner m (map pending asked)
-stand_start manner m [] u = tt
-stand_start manner m (a ∷ more) u =
+pub stand_start : (profile : Profile) (m : Maps) (requested : List BurstRequest) → AreUnused m [] (slots_of requested) → Stand profile m (map pending requested)
+stand_start profile m [] u = tt
+stand_start profile m (a ∷ more) u =
     let mine : List ℕ = owned a.owned.slots in
     let theirs : List ℕ = slots_of more in
-    (front_unused m mine theirs u, each_pending m a more (each_other mine more (others_behind mine theirs u.slots_apart)), stand_start manner m more (behind_unused m mine theirs u))
+    (front_unused m mine theirs u, each_pending m a more (each_other mine more (others_behind mine theirs u.slots_apart)), stand_start profile m more (behind_unused m mine theirs u))
 
-pub nothing_out : (asked : List Asked) (q : Key) → has (out (map pending asked)) q ≡ false
+pub nothing_out : (requested : List BurstRequest) (q : Key) → has (out (map pending requested)) q ≡ false
 nothing_out [] q = refl
 nothing_out (a ∷ more) q = nothing_out more q
 
-pub start_maps : (asked : List Asked) (m : Maps) → m ≡ cut (out (map pending asked)) m
-start_maps asked m = sym (cut_none (out (map pending asked)) m (nothing_out asked))
+pub start_maps : (requested : List BurstRequest) (m : Maps) → m ≡ cut (out (map pending requested)) m
+start_maps requested m = sym (cut_none (out (map pending requested)) m (nothing_out requested))
 
-pub carried_start : (manner : Manner) (asked : List Asked) (m : Maps) → carried_on manner (map pending asked) m ≡ carried manner asked m
-carried_start manner [] m = refl
-carried_start manner (a ∷ more) m = ap (λ (o : Outcome (List Text)). record { maps = o.maps; answer = (done manner a m).answer ∷ o.answer }) (carried_start manner more (done manner a m).maps)
+pub carried_start : (profile : Profile) (requested : List BurstRequest) (m : Maps) → carried_on profile (map pending requested) m ≡ carried profile requested m
+carried_start profile [] m = refl
+carried_start profile (a ∷ more) m = ap (λ (o : Outcome (List Text)). record { maps = o.maps; answer = (done profile a m).answer ∷ o.answer }) (carried_start profile more (done profile a m).maps)

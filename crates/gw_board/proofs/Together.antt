@@ -22,7 +22,7 @@ use Rattle.gw_table.proofs.Growth.{Grows}
 use Rattle.gw_base.specs.NameLists.{is_in}
 use Rattle.gw_term.specs.declared.record.Termination.{Termination}
 use Rattle.gw_ctx.specs.Contexts.{ContextRecord}
-use Rattle.gw_board.specs.Carried.{Asked, keys_of}
+use Rattle.gw_board.specs.Carried.{BurstRequest, keys_of}
 use Rattle.gw_board.specs.Core.{Standing, Pending, Opened, Closed, Place, Core, pending, open_with, meets_at, meets_any, AreKeysOf, MayOpen, after_open}
 use Rattle.gw_board.specs.Results.{is_open, NothingIsOpen}
 use Rattle.gw_board.specs.Waves.{is_pending, meets_pending, is_free, wave, MayOpenAll}
@@ -56,7 +56,7 @@ grows_cut keys o m = record {
   members = λ c t h. inl (old_member (has o (Ctx c)) (ctx m c) t (ap (λ x. is_in t (members_of x)) (sym (ctx-cut o m c)) ∙ h));
 }
 
-pub keys_fewer : (a : Asked) (o : List Key) (m : Maps) → Among (keys_of a (cut o m)) (keys_of a m)
+pub keys_fewer : (a : BurstRequest) (o : List Key) (m : Maps) → Among (keys_of a (cut o m)) (keys_of a m)
 keys_fewer a o m =
     let owners = paired a.request a.owned in
     held_after (keys_of a m) owners m (cut o m) (λ k h. h) (λ h. part_of_cut (keys_of a m) o m (whole_part owners m h)) (grows_cut (keys_of a m) o m)
@@ -71,7 +71,7 @@ fewer_apart a b keys f h = record { keys = λ k i. h.keys k (f k i); whole_a = n
 -- ---- places of a wave that are open, and others as they were
 
 -- in the maps with nothing out: a pending place is pending still, or open with the keys that its request has there
-abbrev IsAs : Maps → Asked → Standing → Standing → Type 0
+abbrev IsAs : Maps → BurstRequest → Standing → Standing → Type 0
 IsAs m a Pending Pending = Unit {0}
 IsAs m a Pending (Opened j) = SameKeys j.keys (keys_of a m)
 IsAs m a Pending (Closed reply) = ⊥
@@ -81,8 +81,8 @@ IsAs m a (Closed r) (Opened j) = ⊥
 IsAs m a (Closed r) (Closed reply) = Unit {0}
 
 record Follows (m : Maps) (p q : Place) : Type 0 where
-  same : q.asked ≡ p.asked
-  stands : IsAs m p.asked p.standing q.standing
+  same : q.requested ≡ p.requested
+  stands : IsAs m p.requested p.standing q.standing
 
 abbrev Follow : Maps → List Place → List Place → Type 0
 Follow m [] [] = Unit {0}
@@ -90,11 +90,11 @@ Follow m [] (q ∷ qs) = ⊥
 Follow m (p ∷ ps) [] = ⊥
 Follow m (p ∷ ps) (q ∷ qs) = Follows m p q × Follow m ps qs
 
-module _ (m : Maps) (a : Asked) where
+module _ (m : Maps) (a : BurstRequest) where
   abbrev mine : List Key
   mine = keys_of a m
 
-  apart_at : (b : Asked) (x y : Standing) → IsAs m b x y → (is_pending x && meets (keys_of b m) mine) ≡ false → ApartAt mine y
+  apart_at : (b : BurstRequest) (x y : Standing) → IsAs m b x y → (is_pending x && meets (keys_of b m) mine) ≡ false → ApartAt mine y
   apart_at b Pending Pending i h = tt
   apart_at b Pending (Opened j) i h = apart_turned j.keys mine (apart_left (keys_of b m) j.keys mine (λ q. sym (i q)) (apart_if (keys_of b m) mine h))
   apart_at b Pending (Closed reply) i h = tt
@@ -108,13 +108,13 @@ module _ (m : Maps) (a : Asked) where
   apart_all [] (q ∷ qs) f h = absurd f
   apart_all (p ∷ ps) [] f h = absurd f
   apart_all (p ∷ ps) (q ∷ qs) f h =
-      let both = neither (is_pending p.standing && meets (keys_of p.asked m) mine) (meets_pending mine m ps) h in
-      (apart_at p.asked p.standing q.standing f.0.stands both.0, apart_all ps qs f.1 both.1)
+      let both = neither (is_pending p.standing && meets (keys_of p.requested m) mine) (meets_pending mine m ps) h in
+      (apart_at p.requested p.standing q.standing f.0.stands both.0, apart_all ps qs f.1 both.1)
 
   -- they are not met while others are out
-  meets_not_at : (o : List Key) (b c : Asked) (x y : Standing) → c ≡ b → IsAs m b x y → (is_pending x && meets (keys_of b m) mine) ≡ false → meets_at mine (cut o m) c y ≡ false
+  meets_not_at : (o : List Key) (b c : BurstRequest) (x y : Standing) → c ≡ b → IsAs m b x y → (is_pending x && meets (keys_of b m) mine) ≡ false → meets_at mine (cut o m) c y ≡ false
   meets_not_at o b c Pending Pending e i h = apart_only (keys_of c (cut o m)) mine (fewer_apart (keys_of c (cut o m)) (keys_of b m) mine
-      (subst (λ (d : Asked). Among (keys_of c (cut o m)) (keys_of d m)) e (keys_fewer c o m)) (apart_if (keys_of b m) mine h))
+      (subst (λ (d : BurstRequest). Among (keys_of c (cut o m)) (keys_of d m)) e (keys_fewer c o m)) (apart_if (keys_of b m) mine h))
   meets_not_at o b c Pending (Opened j) e i h = apart_only j.keys mine (apart_left (keys_of b m) j.keys mine (λ q. sym (i q)) (apart_if (keys_of b m) mine h))
   meets_not_at o b c Pending (Closed reply) e i h = refl
   meets_not_at o b c (Opened k) y e i h = absurd i
@@ -127,8 +127,8 @@ module _ (m : Maps) (a : Asked) where
   meets_none o [] (q ∷ qs) f h = absurd f
   meets_none o (p ∷ ps) [] f h = absurd f
   meets_none o (p ∷ ps) (q ∷ qs) f h =
-      let both = neither (is_pending p.standing && meets (keys_of p.asked m) mine) (meets_pending mine m ps) h in
-      ap (λ b. b || meets_any mine (cut o m) qs) (meets_not_at o p.asked q.asked p.standing q.standing f.0.same f.0.stands both.0)
+      let both = neither (is_pending p.standing && meets (keys_of p.requested m) mine) (meets_pending mine m ps) h in
+      ap (λ b. b || meets_any mine (cut o m) qs) (meets_not_at o p.requested q.requested p.standing q.standing f.0.same f.0.stands both.0)
       ∙ meets_none o ps qs f.1 both.1
 
   same_keys : (ps qs : List Place) → Follow m ps qs → meets_pending mine m ps ≡ false → keys_of a (cut (out qs) m) ≡ mine
@@ -162,7 +162,7 @@ module _ (s : Core) where
   still : (p : Place) → is_open p.standing ≡ false → Follows m p p
   still p h = record { same = refl; stands = by p.standing h }
     where
-      by : (x : Standing) → is_open x ≡ false → IsAs m p.asked x x
+      by : (x : Standing) → is_open x ≡ false → IsAs m p.requested x x
       by Pending e = tt
       by (Opened j) e = absurd cc
       by (Closed reply) e = tt
@@ -190,7 +190,7 @@ module _ (s : Core) where
     maps = r.maps ∙ cut_alike (out front) (out (front ++ p ∷ [])) m (λ q. out-append front (p ∷ []) q ∙ or_none (has (out front) q) (has (out (p ∷ [])) q) (nothing_at p h q));
   }
 
-  module _ (t : Core) (i : ℕ) (earlier front rest : List Place) (a : Asked) (r : Reaches t i earlier front (pending a ∷ rest)) (free : meets_pending (keys_of a m) m earlier ≡ false) where
+  module _ (t : Core) (i : ℕ) (earlier front rest : List Place) (a : BurstRequest) (r : Reaches t i earlier front (pending a ∷ rest)) (free : meets_pending (keys_of a m) m earlier ≡ false) where
     now : keys_of a t.maps ≡ keys_of a m
     now = ap (keys_of a) r.maps ∙ same_keys m a earlier front r.follow free
 
@@ -220,31 +220,31 @@ module _ (s : Core) where
 
   -- what a place asks, and that its keys are those that it has with nothing out
   pub record Unchanged (t : Core) (i : ℕ) : Type 0 where
-    pub asked : Asked
-    pub stands : slice_get s.places i ≡ Some (pending asked)
-    pub keys : keys_of asked t.maps ≡ keys_of asked m
+    pub requested : BurstRequest
+    pub stands : slice_get s.places i ≡ Some (pending requested)
+    pub keys : keys_of requested t.maps ≡ keys_of requested m
 
   -- each may be opened, with the keys that it has with nothing out, once those before it in the list are
   abbrev pub InTurn : Core → List ℕ → Type 0
   InTurn t [] = Unit {0}
-  InTurn t (i ∷ later) = (u : Unchanged t i) × ((keys : List Key) → AreKeysOf u.asked t.maps keys → MayOpen t i u.asked keys × InTurn (after_open t i u.asked keys) later)
+  InTurn t (i ∷ later) = (u : Unchanged t i) × ((keys : List Key) → AreKeysOf u.requested t.maps keys → MayOpen t i u.requested keys × InTurn (after_open t i u.requested keys) later)
 
   by_place : (t : Core) (i : ℕ) (earlier front rest : List Place) (p : Place) (later : List ℕ) → is_open p.standing ≡ false → Reaches t i earlier front (p ∷ rest)
       → ((u : Core) (fs : List Place) → Reaches u (i + 1) (earlier ++ p ∷ []) fs rest → InTurn u later)
-      → (x : Standing) → p.standing ≡ x → (b : Bool) → meets_pending (keys_of p.asked m) m earlier ≡ b → InTurn t (cond (is_pending x && not b) (i ∷ later) later)
+      → (x : Standing) → p.standing ≡ x → (b : Bool) → meets_pending (keys_of p.requested m) m earlier ≡ b → InTurn t (cond (is_pending x && not b) (i ∷ later) later)
   by_place t i earlier front rest p later h r ih Pending e false f =
-      let is : p ≡ pending p.asked = (λ k. record { asked = p.asked; standing = e k }) in
-      let q : Reaches t i earlier front (pending p.asked ∷ rest) = subst (λ y. Reaches t i earlier front (y ∷ rest)) is r in (
+      let is : p ≡ pending p.requested = (λ k. record { requested = p.requested; standing = e k }) in
+      let q : Reaches t i earlier front (pending p.requested ∷ rest) = subst (λ y. Reaches t i earlier front (y ∷ rest)) is r in (
         record {
-          asked = p.asked;
-          stands = (λ k. slice_get (q.places k) (sym q.count k)) ∙ item_at earlier rest (pending p.asked);
-          keys = now t i earlier front rest p.asked q f;
+          requested = p.requested;
+          stands = (λ k. slice_get (q.places k) (sym q.count k)) ∙ item_at earlier rest (pending p.requested);
+          keys = now t i earlier front rest p.requested q f;
         },
         λ keys l.
-            let n : Place = new t i earlier front rest p.asked q f keys in (
-              may_open t i earlier front rest p.asked q f keys l,
-              ih (after_open t i p.asked keys) (front ++ n ∷ [])
-                  (subst (λ y. Reaches (after_open t i p.asked keys) (i + 1) (earlier ++ y ∷ []) (front ++ n ∷ []) rest) (sym is) (reaches_open t i earlier front rest p.asked q f keys l)),
+            let n : Place = new t i earlier front rest p.requested q f keys in (
+              may_open t i earlier front rest p.requested q f keys l,
+              ih (after_open t i p.requested keys) (front ++ n ∷ [])
+                  (subst (λ y. Reaches (after_open t i p.requested keys) (i + 1) (earlier ++ y ∷ []) (front ++ n ∷ []) rest) (sym is) (reaches_open t i earlier front rest p.requested q f keys l)),
             ),
       )
   by_place t i earlier front rest p later h r ih Pending e true f = ih t (front ++ p ∷ []) (past t i earlier front rest p h r)
@@ -259,7 +259,7 @@ module _ (s : Core) where
       let here : slice_get s.places i ≡ Some p = (λ k. slice_get (r.places k) (sym r.count k)) ∙ item_at earlier ps p in
       let later : List ℕ = those (i + 1) (length ps) in
       subst (λ b. InTurn t (cond b (i ∷ later) later)) (λ k. is_free m (sym front_is k) (sym here k))
-      (by_place t i earlier front ps p later both.0 r (λ u fs q. all_may ps (earlier ++ p ∷ []) fs (i + 1) u both.1 q) p.standing refl (meets_pending (keys_of p.asked m) m earlier) refl)
+      (by_place t i earlier front ps p later both.0 r (λ u fs q. all_may ps (earlier ++ p ∷ []) fs (i + 1) u both.1 q) p.standing refl (meets_pending (keys_of p.requested m) m earlier) refl)
 
 pub wave_in_turn : (s : Core) → NothingIsOpen s → InTurn s s (wave s)
 wave_in_turn s h = all_may s s.places [] [] 0 s h (record { count = refl; count_front = refl; places = refl; places_now = refl; follow = tt; maps = sym (cut_none [] s.maps (λ q. refl)) })
@@ -269,4 +269,4 @@ wave_may_open s h = by (wave s) s (wave_in_turn s h)
   where
     by : (l : List ℕ) (t : Core) → InTurn s t l → MayOpenAll t l
     by [] t g = tt
-    by (i ∷ later) t g = (g.0.asked, λ keys listed. let now = g.1 keys listed in (now.0, by later (after_open t i g.0.asked keys) now.1))
+    by (i ∷ later) t g = (g.0.requested, λ keys listed. let now = g.1 keys listed in (now.0, by later (after_open t i g.0.requested keys) now.1))

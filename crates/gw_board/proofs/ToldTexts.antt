@@ -15,9 +15,9 @@ use Rattle.gw_reply.specs.declared.reply.ActionReply.{ActionReply}
 use Rattle.gw_reply.specs.declared.reply.TxReply.{TxReply}
 use Rattle.gw_reserve.specs.Owned.{OwnedAction}
 use Rattle.gw_table.specs.Maps.{Maps}
-use Rattle.gw_tx.specs.declared.told.Told.{Told}
-use Rattle.gw_tx.specs.declared.told.Told.TheVariants.{Whole, TooLong}
-use Rattle.gw_tx.specs.Told.{within}
+use Rattle.gw_tx.specs.declared.limited_text.LimitedText.{LimitedText}
+use Rattle.gw_tx.specs.declared.limited_text.LimitedText.TheVariants.{Whole, TooLong}
+use Rattle.gw_tx.specs.LimitedText.{within}
 use Rattle.gw_tx.specs.Transactions.{paired_transaction}
 use Rattle.gw_board.specs.Limits.{reply_limit}
 
@@ -26,11 +26,11 @@ unfolding paired_transaction
 same_id rules r owners m = refl
 
 -- what is told is told of a reply that is not too long
-by_whole : (b : Bool) (text all : List ℕ) → Whole text ≡ (let t : Told = if b then Whole all else TooLong in t) → (text ≡ all) × (b ≡ true)
+by_whole : (b : Bool) (text all : List ℕ) → Whole text ≡ (let t : LimitedText = if b then Whole all else TooLong in t) → (text ≡ all) × (b ≡ true)
 by_whole true text all e = (cc, refl)
 by_whole false text all e = absurd cc
 
-by_long : (b : Bool) (all : List ℕ) → TooLong ≡ (let t : Told = if b then Whole all else TooLong in t) → b ≡ false
+by_long : (b : Bool) (all : List ℕ) → TooLong ≡ (let t : LimitedText = if b then Whole all else TooLong in t) → b ≡ false
 by_long true all e = absurd cc
 by_long false all e = refl
 
@@ -51,11 +51,11 @@ unfolding reply_text
 told_is mid text reply e =
     let body : List ℕ = transaction_reply_text reply in
     let whole : List ℕ = message_text mid body in
-    let told = by_whole (nat_le (length body) (reply_limit mid)) text (later_replies action_reply_text reply.result) e in
-    let le = leb-true (length body) (reply_limit mid) told.1 in
+    let limited_text = by_whole (nat_le (length body) (reply_limit mid)) text (later_replies action_reply_text reply.result) e in
+    let le = leb-true (length body) (reply_limit mid) limited_text.1 in
     let some : 1 ≤ length body = omega arith in
     let fits : nat_le (length whole) longest_message ≡ true = le-leb (length whole) longest_message (omega (arith, le, some, length-message mid body)) in
-    ap (λ (t : List ℕ). message_text mid (framed_reply reply.id t)) told.0 ∙ ap (λ (t : List ℕ). message_text mid t) (framed_is reply)
+    ap (λ (t : List ℕ). message_text mid (framed_reply reply.id t)) limited_text.0 ∙ ap (λ (t : List ℕ). message_text mid t) (framed_is reply)
     ∙ sym (ap (λ (b : Bool). if b then whole else message_text mid (transaction_reply_text (too_long reply.id))) fits)
 
 -- one that is too long is told as error 533, as this error itself is

@@ -21,7 +21,7 @@ use Rattle.gw_cmd.specs.Keys.{every_key}
 use Rattle.gw_cmd.proofs.Ready.{every_term, every_ctx, named}
 use Rattle.gw_reserve.specs.Owned.{paired}
 use Rattle.gw_foot.proofs.AfterAnother.{held_after}
-use Rattle.gw_board.specs.Carried.{Asked, keys_of}
+use Rattle.gw_board.specs.Carried.{BurstRequest, keys_of}
 use Rattle.gw_board.proofs.Leading.{Leads, there_is}
 use Rattle.gw_board.proofs.Outs.{Clear}
 
@@ -51,7 +51,7 @@ is_placed (Some r) c e = refl
 
 -- ---- keys that are told to be apart while entries are out that are none of theirs
 
-module _ (limit : ℕ) (a : Asked) (keys o : List Key) (m : Maps) (w : AreWellFormed limit m) (mine : Leads keys m) (others : Leads o m) (clear : Clear keys o) (apart : AreApart (keys_of a (cut o m)) keys) where
+module _ (limit : ℕ) (a : BurstRequest) (keys o : List Key) (m : Maps) (w : AreWellFormed limit m) (mine : Leads keys m) (others : Leads o m) (clear : Clear keys o) (apart : AreApart (keys_of a (cut o m)) keys) where
   -- not the whole, and none of the keys
   abbrev is_other : Key → Bool
   is_other k = not (has (Whole ∷ keys) k)
@@ -91,16 +91,16 @@ module _ (limit : ℕ) (a : Asked) (keys o : List Key) (m : Maps) (w : AreWellFo
     members = λ c t i. subst (λ x. (is_in t (members_of x) ≡ true) ⊎ (has rest (Term t) ≡ true)) (sym (ctx-cut o m c)) (new_member c t (has o (Ctx c)) refl i);
   }
 
-  told : (k : Key) → has (keys_of a (cut o m)) k ≡ true → has rest k ≡ true
-  told (Term t) h = other_term t (apart.keys (Term t) h) (any-append_left (same_key (Term t)) (keys_of a (cut o m)) (every_key m) h)
-  told (Ctx c) h = other_ctx c (apart.keys (Ctx c) h) (any-append_left (same_key (Ctx c)) (keys_of a (cut o m)) (every_key m) h)
-  told Whole h = absurd (let clash : true ≡ false = sym h ∙ apart.whole_a in cc)
+  limited_text : (k : Key) → has (keys_of a (cut o m)) k ≡ true → has rest k ≡ true
+  limited_text (Term t) h = other_term t (apart.keys (Term t) h) (any-append_left (same_key (Term t)) (keys_of a (cut o m)) (every_key m) h)
+  limited_text (Ctx c) h = other_ctx c (apart.keys (Ctx c) h) (any-append_left (same_key (Ctx c)) (keys_of a (cut o m)) (every_key m) h)
+  limited_text Whole h = absurd (let clash : true ≡ false = sym h ∙ apart.whole_a in cc)
 
   no_whole : has rest Whole ≡ true → ⊥
   no_whole h = let clash : false ≡ true = passed is_other all Whole h in cc
 
   held : Holds (Only rest) (keys_of a m)
-  held = held_after rest (paired a.request a.owned) (cut o m) m told (λ h. absurd (no_whole h)) grows
+  held = held_after rest (paired a.request a.owned) (cut o m) m limited_text (λ h. absurd (no_whole h)) grows
 
   other_than : (b c : Bool) → not (b || c) ≡ true → c ≡ false
   other_than true c h = absurd cc

@@ -1,5 +1,5 @@
 -- The jobs of a wave are opened one after another, and closed one after another.
-use Rattle.std.proofs.Common.{nat_eq, ◌≡◌, ℕ, zero, suc, Bool, true, false, cond, not, List, [], ◌∷◌, ◌++◌, take, Option, None, Some, Result, Ok, is_ok, refl, sym, ap, subst, ◌∙◌, arith, eqb-true, eq-eqb}
+use Rattle.std.proofs.Common.{nat_eq, ◌≡◌, ℕ, zero, suc, Bool, true, false, cond, List, [], ◌∷◌, ◌++◌, map, Option, None, Some, Result, Ok, is_ok, refl, sym, ap, subst, ◌∙◌, arith, eqb-true, eq-eqb}
 use Rattle.std.specs.Prelude.{◌||◌, ◌&&◌, slice_get, slice_set, IsOk, IsSomeAnd, MatchOption}
 use Rattle.std.specs.List.{All, AllZip, list_any, list_all}
 use Rattle.std.specs.Option.{option_to_list}
@@ -7,18 +7,16 @@ use Rattle.std.proofs.lemmas.List.Elements.{All-nil, All-cons, All-head, All-tai
 use Rattle.gw_base.proofs.Booleans.{neither, both as each_of}
 use Rattle.gw_base.specs.declared.fault.NoMemory.{NoMemory}
 use Rattle.gw_table.specs.Parts.{Parted}
-use Rattle.gw_board.specs.Boards.{Seen, Handed, HasOpen, Opens, core_of, asked_of, job_of, outcome_of, unchanged, with_result, is_closed, AllClosed, unclosed}
-use Rattle.gw_board.specs.Carried.{Asked}
-use Rattle.gw_board.specs.Core.{Standing, Pending, Opened, Closed, Place, pending, open_with, closed_with}
+use Rattle.gw_board.specs.Boards.{Seen, Handed, HasOpen, Opens, core_of, requested_in, job_of, outcome_of, unchanged, with_result, unclosed}
+use Rattle.gw_board.specs.Core.{Place, pending, open_with, closed_with}
 use Rattle.gw_board.specs.Jobs.{IsResult}
-use Rattle.gw_board.specs.OpenJobs.{count_at, AreOpen, IsAnswer, AreAnswers, IsSameBurst}
+use Rattle.gw_board.specs.OpenJobs.{count_at, after_each, AreOpen, IsAnswer, AreAnswers, IsSameBurst}
 use Rattle.gw_board.specs.Results.{is_open, is_open_at, NothingIsOpen}
 use Rattle.gw_board.specs.Texts.{Text}
-use Rattle.gw_board.specs.Waves.{is_pending, wave}
+use Rattle.gw_board.specs.declared.planned.Planned.{Planned}
 use Rattle.gw_board.proofs.Ends.{as_many_unclosed, fewer_unclosed}
-use Rattle.gw_board.proofs.LeftOut.{first_is_in}
-use Rattle.gw_board.proofs.OnTheWay.{asked-set}
-use Rattle.gw_board.proofs.SeatFacts.{unclosed-stays}
+use Rattle.gw_board.proofs.OnTheWay.{requested-set}
+use Rattle.gw_board.proofs.BoardEntryFacts.{unclosed-stays}
 
 -- ---- places that are set
 
@@ -74,30 +72,30 @@ same_place n = eq-eqb n n refl
 -- ---- a job is opened
 
 module _ (b c : Seen) (i : ℕ) (h : Handed) (o : Opens b i h c) where
-  places_are : c.places ≡ slice_set b.places i (open_with h.asked (job_of h))
+  places_are : c.places ≡ slice_set b.places i (open_with h.requested (job_of h))
   places_are =
       ap (λ (x : Seen). x.places) o.board
-      ∙ ap (λ (x : Handed). slice_set b.places i (open_with h.asked (record { keys = h.keys; part = x.part; result = None }))) (sym o.job)
+      ∙ ap (λ (x : Handed). slice_set b.places i (open_with h.requested (record { keys = h.keys; part = x.part; result = None }))) (sym o.job)
 
   place_is : h.place ≡ i
   place_is = ap (λ (x : Handed). x.place) o.job
 
-  manner_is : c.manner ≡ b.manner
-  manner_is = ap (λ (x : Seen). x.manner) o.board
+  manner_is : c.profile ≡ b.profile
+  manner_is = ap (λ (x : Seen). x.profile) o.board
 
   was_shut : is_open_at (slice_get b.places i) ≡ false
   was_shut = ap is_open_at o.may.pends
 
   now_open : HasOpen c h
   now_open = record {
-    manner = ap (λ (x : Handed). x.manner) o.job ∙ sym manner_is;
-    stands = ap (slice_get c.places) place_is ∙ ap (λ (l : List Place). slice_get l i) places_are ∙ set_here b.places i (pending h.asked) (open_with h.asked (job_of h)) o.may.pends;
+    profile = ap (λ (x : Handed). x.profile) o.job ∙ sym manner_is;
+    stands = ap (slice_get c.places) place_is ∙ ap (λ (l : List Place). slice_get l i) places_are ∙ set_here b.places i (pending h.requested) (open_with h.requested (job_of h)) o.may.pends;
   }
 
   still_open : (g : Handed) → nat_eq g.place i ≡ false → HasOpen b g → HasOpen c g
   still_open g apart has = record {
-    manner = has.manner ∙ sym manner_is;
-    stands = ap (λ (l : List Place). slice_get l g.place) places_are ∙ set_elsewhere b.places i g.place (open_with h.asked (job_of h)) apart ∙ has.stands;
+    profile = has.profile ∙ sym manner_is;
+    stands = ap (λ (l : List Place). slice_get l g.place) places_are ∙ set_elsewhere b.places i g.place (open_with h.requested (job_of h)) apart ∙ has.stands;
   }
 
   pub one_opened : (jobs : List Handed) → AreOpen b jobs → AreOpen c (jobs ++ h ∷ [])
@@ -114,24 +112,30 @@ module _ (b c : Seen) (i : ℕ) (h : Handed) (o : Opens b i h c) where
           ap suc (ap (λ (n : ℕ). count_at n jobs) here ∙ none)
           ∙ sym (ap (λ (n : ℕ). cond (is_open_at (slice_get c.places n)) 1 0) (here ∙ sym place_is) ∙ ap (λ (p : Option Place). cond (is_open_at p) 1 0) now_open.stands)
       by k none false e =
-          a.one k ∙ sym (ap (λ (l : List Place). cond (is_open_at (slice_get l k)) 1 0) places_are ∙ ap (λ (p : Option Place). cond (is_open_at p) 1 0) (set_elsewhere b.places i k (open_with h.asked (job_of h)) e))
+          a.one k ∙ sym (ap (λ (l : List Place). cond (is_open_at (slice_get l k)) 1 0) places_are ∙ ap (λ (p : Option Place). cond (is_open_at p) 1 0) (set_elsewhere b.places i k (open_with h.requested (job_of h)) e))
 
   pub same_opened : IsSameBurst b c
   same_opened = record {
-    manner = manner_is;
+    profile = manner_is;
     start = ap (λ (x : Seen). x.start) o.board;
-    asked = ap asked_of places_are ∙ asked-set b.places i (pending h.asked) (open_with h.asked (job_of h)) o.may.pends refl;
+    requested = ap requested_in places_are ∙ requested-set b.places i (pending h.requested) (open_with h.requested (job_of h)) o.may.pends refl;
   }
 
   pub left_opened : unclosed c.places ≡ unclosed b.places
-  left_opened = ap unclosed places_are ∙ unclosed-stays b.places i (pending h.asked) (open_with h.asked (job_of h)) o.may.pends refl refl
+  left_opened = ap unclosed places_are ∙ unclosed-stays b.places i (pending h.requested) (open_with h.requested (job_of h)) o.may.pends refl refl
+
+-- the place of the job is that which was planned
+pub one_placed : (b c : Seen) (p : Planned) (h : Handed) → Opens b p.place h c → (jobs : List Handed) (later : List Planned)
+    → map (λ (j : Handed). j.place) (jobs ++ h ∷ []) ++ map (λ (q : Planned). q.place) later ≡ map (λ (j : Handed). j.place) jobs ++ map (λ (q : Planned). q.place) (p ∷ later)
+one_placed b c p h o [] later = ap (λ n. n ∷ map (λ (q : Planned). q.place) later) (place_is b c p.place h o)
+one_placed b c p h o (j ∷ js) later = ap (λ l. j.place ∷ l) (one_placed b c p h o js later)
 
 -- ---- a job is closed, either way: something that is not open stands at its place
 
-module _ (b c : Seen) (h : Handed) (new : Place) (manner : c.manner ≡ b.manner) (places : c.places ≡ slice_set b.places h.place new) (shut : is_open new.standing ≡ false) where
+module _ (b c : Seen) (h : Handed) (new : Place) (profile : c.profile ≡ b.profile) (places : c.places ≡ slice_set b.places h.place new) (shut : is_open new.standing ≡ false) where
   left_open : (g : Handed) → nat_eq g.place h.place ≡ false → HasOpen b g → HasOpen c g
   left_open g apart has = record {
-    manner = has.manner ∙ sym manner;
+    profile = has.profile ∙ sym profile;
     stands = ap (λ (l : List Place). slice_get l g.place) places ∙ set_elsewhere b.places h.place g.place new apart ∙ has.stands;
   }
 
@@ -161,7 +165,7 @@ module _ (b c : Seen) (h : Handed) (new : Place) (manner : c.manner ≡ b.manner
           ap (λ (n : ℕ). count_at n front) here ∙ none
           ∙ sym (ap (λ (n : ℕ). cond (is_open_at (slice_get c.places n)) 1 0) here
           ∙ ap (λ (l : List Place). cond (is_open_at (slice_get l h.place)) 1 0) places
-          ∙ ap (λ (p : Option Place). cond (is_open_at p) 1 0) (set_here b.places h.place (open_with h.asked (job_of h)) new mine.stands)
+          ∙ ap (λ (p : Option Place). cond (is_open_at p) 1 0) (set_here b.places h.place (open_with h.requested (job_of h)) new mine.stands)
           ∙ ap (λ (x : Bool). cond x 1 0) shut)
       by k none mine false e =
           ap (λ (x : Bool). cond x (suc (count_at k front)) (count_at k front)) (sym e) ∙ sym (count_last k front h) ∙ a.one k
@@ -172,6 +176,11 @@ module _ (b c : Seen) (h : Handed) (new : Place) (manner : c.manner ≡ b.manner
 pub record IsClosed (b d : Seen) (front : List Handed) : Type 0 where
   pub open_still : AreOpen d front
   pub same : IsSameBurst b d
+
+-- the last job ends first
+pub last_first : (end : Seen → Handed → Seen) (b : Seen) (front : List Handed) (h : Handed) → after_each end b (front ++ h ∷ []) ≡ after_each end (end b h) front
+last_first end b [] h = refl
+last_first end b (g ∷ gs) h = ap (λ x. end x g) (last_first end b gs h)
 
 -- the last job is open
 pub last_open : (b : Seen) (front : List Handed) (h : Handed) → AreOpen b (front ++ h ∷ []) → HasOpen b h
@@ -187,11 +196,11 @@ module _ (b d : Seen) (front : List Handed) (h : Handed) (a : AreOpen b (front +
 
   pub was_unchanged : d ≡ unchanged b h → IsClosed b d front
   was_unchanged is = record {
-    open_still = one_closed b d h (pending h.asked) (ap (λ (x : Seen). x.manner) is) (ap (λ (x : Seen). x.places) is) refl front a;
+    open_still = one_closed b d h (pending h.requested) (ap (λ (x : Seen). x.profile) is) (ap (λ (x : Seen). x.places) is) refl front a;
     same = record {
-      manner = ap (λ (x : Seen). x.manner) is;
+      profile = ap (λ (x : Seen). x.profile) is;
       start = ap (λ (x : Seen). x.start) is;
-      asked = ap (λ (x : Seen). asked_of x.places) is ∙ asked-set b.places h.place (open_with h.asked (job_of h)) (pending h.asked) mine.stands refl;
+      requested = ap (λ (x : Seen). requested_in x.places) is ∙ requested-set b.places h.place (open_with h.requested (job_of h)) (pending h.requested) mine.stands refl;
     };
   }
 
@@ -200,11 +209,11 @@ module _ (b d : Seen) (front : List Handed) (h : Handed) (a : AreOpen b (front +
 
   pub had_result : d ≡ with_result b h → IsClosed b d front
   had_result is = record {
-    open_still = one_closed b d h (closed_with h.asked (outcome_of h).answer) (ap (λ (x : Seen). x.manner) is) (ap (λ (x : Seen). x.places) is) refl front a;
+    open_still = one_closed b d h (closed_with h.requested (outcome_of h).answer) (ap (λ (x : Seen). x.profile) is) (ap (λ (x : Seen). x.places) is) refl front a;
     same = record {
-      manner = ap (λ (x : Seen). x.manner) is;
+      profile = ap (λ (x : Seen). x.profile) is;
       start = ap (λ (x : Seen). x.start) is;
-      asked = ap (λ (x : Seen). asked_of x.places) is ∙ asked-set b.places h.place (open_with h.asked (job_of h)) (closed_with h.asked (outcome_of h).answer) mine.stands refl;
+      requested = ap (λ (x : Seen). requested_in x.places) is ∙ requested-set b.places h.place (open_with h.requested (job_of h)) (closed_with h.requested (outcome_of h).answer) mine.stands refl;
     };
   }
 
@@ -236,48 +245,13 @@ shut_at (p ∷ ps) (suc i) h = shut_at ps i (neither (is_open p.standing) (list_
 pub no_jobs : (b : Seen) → NothingIsOpen (core_of b) → AreOpen b []
 no_jobs b h = record { each = All-nil (HasOpen b); one = λ i. sym (ap (λ (x : Bool). cond x 1 0) (shut_at b.places i h)) }
 
--- ---- a wave of none
-
-record IsFirstPending (places : List Place) : Type 0 where
-  place : ℕ
-  asked : Asked
-  pends : slice_get places place ≡ Some (pending asked)
-  first : list_any (λ p. is_pending p.standing) (take place places) ≡ false
-
--- where nothing is open, a place is closed, or there is a first one that pends
-closed_or : (places : List Place) → list_any (λ p. is_open p.standing) places ≡ false → (AllClosed places → ⊥) → IsFirstPending places
-closed_or [] h f = absurd (f refl)
-closed_or (p ∷ ps) h f = by p.standing refl (neither (is_open p.standing) (list_any (λ q. is_open q.standing) ps) h) (closed_or ps)
-  where
-    by : (x : Standing) → p.standing ≡ x → (is_open p.standing ≡ false) × (list_any (λ q. is_open q.standing) ps ≡ false) → (list_any (λ q. is_open q.standing) ps ≡ false → (AllClosed ps → ⊥) → IsFirstPending ps) → IsFirstPending (p ∷ ps)
-    by Pending e both more = record { place = 0; asked = p.asked; pends = λ k. Some (record { asked = p.asked; standing = e k }); first = refl }
-    by (Opened j) e both more = absurd (let clash : true ≡ false = ap is_open (sym e) ∙ both.0 in cc)
-    by (Closed reply) e both more =
-        let later : IsFirstPending ps = more both.1 (λ all. f (ap (λ (x : Standing). not (is_closed x) || list_any (λ q. not (is_closed q.standing)) ps) e ∙ all)) in
-        record {
-          place = suc later.place;
-          asked = later.asked;
-          pends = later.pends;
-          first = ap (λ (x : Standing). is_pending x || list_any (λ q. is_pending q.standing) (take later.place ps)) e ∙ later.first;
-        }
-
-pub all_are_closed : (b : Seen) → NothingIsOpen (core_of b) → wave (core_of b) ≡ [] → AllClosed b.places
-all_are_closed b none empty = by (list_any (λ p. not (is_closed p.standing)) b.places) refl
-  where
-    by : (x : Bool) → list_any (λ p. not (is_closed p.standing)) b.places ≡ x → AllClosed b.places
-    by false e = e
-    by true e =
-        let first : IsFirstPending b.places = closed_or b.places none (λ all. let clash : true ≡ false = sym e ∙ all in cc) in
-        let inside : list_any (nat_eq first.place) (wave (core_of b)) ≡ true = first_is_in (core_of b) first.place first.asked first.pends first.first in
-        absurd (let clash : false ≡ true = ap (list_any (nat_eq first.place)) (sym empty) ∙ inside in cc)
-
 -- ---- one after another
 
 pub same_still : (b c d : Seen) → IsSameBurst b c → IsSameBurst c d → IsSameBurst b d
-same_still b c d s t = record { manner = t.manner ∙ s.manner; start = t.start ∙ s.start; asked = t.asked ∙ s.asked }
+same_still b c d s t = record { profile = t.profile ∙ s.profile; start = t.start ∙ s.start; requested = t.requested ∙ s.requested }
 
 pub same_itself : (b : Seen) → IsSameBurst b b
-same_itself b = record { manner = refl; start = refl; asked = refl }
+same_itself b = record { profile = refl; start = refl; requested = refl }
 
 -- ---- nothing was taken
 
@@ -288,10 +262,6 @@ nothing_left (Some x) P Q m f = absurd (f x refl)
 pub emptied : {X : Type 0} (o : Option X) (P : Type 0) (Q : X → Type 0) → MatchOption o P Q → o ≡ None → P
 emptied None P Q m e = m
 emptied (Some x) P Q m e = absurd cc
-
-pub not_empty : {X : Type 0} (xs : List X) (x : X) → xs ++ x ∷ [] ≡ [] → ⊥
-not_empty [] x e = cc
-not_empty (y ∷ ys) x e = cc
 
 -- ---- two lists, from the end on
 

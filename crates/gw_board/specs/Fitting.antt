@@ -1,7 +1,7 @@
--- States that fit together (own): there are whole maps, from which what is out is missing, and no open job is in the way of an earlier
--- place that is not closed.
+-- States that fit together (own): there are whole maps, from which what is out is missing, and no open job is in the
+-- way of an earlier place that is not closed.
 use Rattle.std.specs.Prelude.{◌≡◌, List, [], ◌∷◌, flat_map, Some}
-use Rattle.gw_board.specs.declared.manner.Manner.{Manner}
+use Rattle.gw_board.specs.declared.profile.Profile.{Profile}
 use Rattle.gw_base.specs.declared.key.Key.{Key}
 use Rattle.gw_base.specs.Keys.{AreApart}
 use Rattle.gw_board.specs.Texts.{Text}
@@ -10,7 +10,7 @@ use Rattle.gw_table.specs.Parts.{restricted, cut}
 use Rattle.gw_table.specs.WellFormed.{AreWellFormed}
 use Rattle.gw_reserve.specs.Owned.{AreFreeSlots}
 use Rattle.gw_foot.specs.OwnsUnused.{OwnOthers}
-use Rattle.gw_board.specs.Carried.{Asked, keys_of, done}
+use Rattle.gw_board.specs.Carried.{BurstRequest, keys_of, done}
 use Rattle.gw_board.specs.Core.{Standing, Pending, Opened, Closed, Job, Place, Core, AreKeysOf}
 
 -- ---- lists
@@ -38,25 +38,25 @@ out places = flat_map (λ p. out_at p.standing) places
 -- ---- a place
 
 -- the job of a request, as it is in the whole maps
-pub record IsJobOf (manner : Manner) (a : Asked) (m : Maps) (j : Job) : Type 0 where
+pub record IsJobOf (profile : Profile) (a : BurstRequest) (m : Maps) (j : Job) : Type 0 where
   pub keys : AreKeysOf a m j.keys
   pub part : j.part ≡ restricted j.keys m
-  pub result : (o : Outcome Text) → j.result ≡ Some o → o ≡ done manner a j.part
+  pub result : (o : Outcome Text) → j.result ≡ Some o → o ≡ done profile a j.part
 
 -- what a request owns is unused until its place is closed
-abbrev pub Fits : Manner → Asked → Maps → Standing → Type 0
-Fits manner a m Pending = AreFreeSlots m a.owned.slots
-Fits manner a m (Opened j) = AreFreeSlots m a.owned.slots × IsJobOf manner a m j
-Fits manner a m (Closed reply) = Unit {0}
+abbrev pub Fits : Profile → BurstRequest → Maps → Standing → Type 0
+Fits profile a m Pending = AreFreeSlots m a.owned.slots
+Fits profile a m (Opened j) = AreFreeSlots m a.owned.slots × IsJobOf profile a m j
+Fits profile a m (Closed reply) = Unit {0}
 
-abbrev pub Stands : Manner → Maps → Place → Type 0
-Stands manner m p = Fits manner p.asked m p.standing
+abbrev pub Stands : Profile → Maps → Place → Type 0
+Stands profile m p = Fits profile p.requested m p.standing
 
 -- ---- and a later one
 
 -- the two own other slots
 abbrev pub Differ : Place → Place → Type 0
-Differ p q = OwnOthers p.asked.owned.slots q.asked.owned.slots
+Differ p q = OwnOthers p.requested.owned.slots q.requested.owned.slots
 
 -- what holds of a place that is not closed
 abbrev pub UnlessClosed : Standing → Type 0 → Type 0
@@ -65,22 +65,22 @@ UnlessClosed (Opened j) T = T
 UnlessClosed (Closed reply) T = Unit {0}
 
 -- a place that is not closed keeps apart from a later open job
-abbrev pub KeepsApart : Asked → Maps → Standing → Standing → Type 0
+abbrev pub KeepsApart : BurstRequest → Maps → Standing → Standing → Type 0
 KeepsApart a m x Pending = Unit {0}
 KeepsApart a m x (Opened j) = UnlessClosed x (AreApart (keys_of a m) j.keys)
 KeepsApart a m x (Closed reply) = Unit {0}
 
 pub record Beside (m : Maps) (p q : Place) : Type 0 where
   pub differ : Differ p q
-  pub apart : KeepsApart p.asked m p.standing q.standing
+  pub apart : KeepsApart p.requested m p.standing q.standing
 
-abbrev pub Stand : Manner → Maps → List Place → Type 0
-Stand manner m places = InOrder (Stands manner m) (Beside m) places
+abbrev pub Stand : Profile → Maps → List Place → Type 0
+Stand profile m places = InOrder (Stands profile m) (Beside m) places
 
 -- ---- a state
 
-pub record FitsTogether (manner : Manner) (s : Core) : Type 0 where
+pub record FitsTogether (profile : Profile) (s : Core) : Type 0 where
   pub whole : Maps
-  pub well : AreWellFormed manner.rules.members whole
+  pub well : AreWellFormed profile.rules.members whole
   pub maps : s.maps ≡ cut (out s.places) whole
-  pub stand : Stand manner whole s.places
+  pub stand : Stand profile whole s.places

@@ -11,8 +11,8 @@ part_in h = record { keys = Only h.keys; maps = h.part }
 
 -- its part covers its request, and the slots that this owns are unused there
 pub record IsJob (h : Handed) : Type 0 where
-  pub covers : Covers (part_in h) (footprint_of (paired h.asked.request h.asked.owned) h.part)
-  pub unused : AreFreeSlots h.part h.asked.owned.slots
+  pub covers : Covers (part_in h) (footprint_of (paired h.requested.request h.requested.owned) h.part)
+  pub unused : AreFreeSlots h.part h.requested.owned.slots
 
 -- the part with its new entries
 abbrev pub new_part : Handed → Parted

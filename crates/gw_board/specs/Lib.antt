@@ -9,13 +9,14 @@ pub mod GoingOn
 pub mod Jobs
 pub mod Journal
 pub mod Limits
+pub mod Links
 pub mod Met
 pub mod Named
 pub mod OpenJobs
 pub mod Planned
 pub mod Refused
 pub mod Results
-pub mod Seats
+pub mod BoardEntries
 pub mod Stood
 pub mod Texts
 pub mod Waiting

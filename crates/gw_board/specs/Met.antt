@@ -3,7 +3,7 @@ use Rattle.std.specs.Prelude.{◌≡◌, ℕ, ◌<◌, true, false, List, length
 use Rattle.gw_base.specs.declared.key.Key.{Key}
 use Rattle.gw_table.specs.Maps.{Maps}
 use Rattle.gw_board.specs.Boards.{Seen, is_pending_at, meets_here, IsFirstMet}
-use Rattle.gw_board.specs.Carried.{Asked}
+use Rattle.gw_board.specs.Carried.{BurstRequest}
 use Rattle.gw_board.specs.Core.{Place, pending, meets_any}
 use Rattle.gw_board.specs.declared.fault.OpenFault.{OpenFault}
 use Rattle.gw_board.specs.declared.fault.OpenFault.TheVariants.{NotPending, Meets, NoMemory}
@@ -18,8 +18,8 @@ abbrev pub FindsFirstMet : List Key → Maps → List Place → Option ℕ → T
 FindsFirstMet keys m places None = meets_any keys m places ≡ false
 FindsFirstMet keys m places (Some j) = IsFirst keys m places j
 
--- what is asked there, if it is pending
-abbrev pub PendsAt : Option Place → Option Asked → Type 0
+-- what is requested there, if it is pending
+abbrev pub PendsAt : Option Place → Option BurstRequest → Type 0
 PendsAt o None = is_pending_at o ≡ false
 PendsAt o (Some a) = o ≡ Some (pending a)
 

@@ -4,28 +4,28 @@ ghost use Rattle.std.specs.Prelude.{◌≡◌, ◌+◌, ◌<◌, true, false, no
 ghost use Rattle.std.specs.List.{list_any};
 ghost use Rattle.gw_reserve.specs.Owned.{AreFreeSlots};
 ghost use Rattle.gw_table.specs.Maps.{Maps};
-ghost use Rattle.gw_table.specs.Originals.{keys_written};
+ghost use Rattle.gw_table.specs.UndoLog.{keys_written};
 ghost use Rattle.gw_table.specs.Parts.{Over, start_of};
 ghost use Rattle.gw_table.specs.Stored.{maps_of, AreReady, NoneIsOut, Stored};
 ghost use Rattle.gw_table.specs.WellFormed.{AreWellFormed};
 ghost use Rattle.gw_board.specs.Alone.{FindsFirst, IsWholeTable, WasCarried, AreAsBegun};
 ghost use Rattle.gw_board.specs.GoingOn.{MayGoOn};
-ghost use Rattle.gw_board.specs.Boards.{asked_of, begun_board, core_of, is_closed, is_pending_at, AllClosed, GivesTheFold, unclosed};
+ghost use Rattle.gw_board.specs.Boards.{requested_in, begun_board, core_of, is_closed, is_pending_at, AllClosed, GivesTheFold, unclosed};
 ghost use Rattle.gw_board.specs.OpenJobs.{IsSameBurst};
 ghost use Rattle.gw_board.specs.Results.{NothingIsOpen};
 ghost use Rattle.gw_board.specs.Met.{PendsAt};
-ghost use Rattle.gw_board.specs.Seats.{standing_of, place_of};
+ghost use Rattle.gw_board.specs.BoardEntries.{standing_of, place_of};
 
-use crate::asked::{Asked, Task, is_seen_for_all};
 use crate::board::Board;
+use crate::board_entry::{BoardEntry, Stage, all_pending, set_stage};
 use crate::job::carry_on;
 use crate::journal::{last_alone, put_all_back};
-use crate::manner::Manner;
-use crate::original::Original;
-use crate::seat::{Seat, Stage, all_pending, set_stage};
+use crate::profile::Profile;
+use crate::requested::{BurstRequest, Task, is_seen_for_all};
+use crate::undo_step::UndoStep;
 use gw_base::{Items, NoMemory};
 use gw_draw::Gate;
-use gw_table::{Draft, Originals, Tables};
+use gw_table::{Draft, Tables, UndoLog};
 use std::alloc::Global;
 use std::mem;
 
@@ -33,13 +33,13 @@ use std::mem;
 #[derive(Drop)]
 struct Left {
     tables: Tables,
-    originals: Originals,
+    undo_log: UndoLog,
     text: Items<u8>,
 }
 
-/// Executes a request, alone, on the tables where they lie, with the originals of earlier changes: the tables then,
+/// Executes a request, alone, on the tables where they lie, with the undo log of earlier changes: the tables then,
 /// what stood there before all these changes, and the text of the reply. The caller knows that the tables are
-/// well-formed, that nothing is out, that each key of the originals has a place, and that the slots that the request
+/// well-formed, that nothing is out, that each key of the undo log has a place, and that the slots that the request
 /// owns are unused.
 ///
 /// # Errors
@@ -47,46 +47,48 @@ struct Left {
 /// Out of memory. The tables come back as they were before all these changes.
 fn carry_in_place(
     alloc: Global,
-    manner: &Manner,
+    profile: &Profile,
     tables: Tables,
-    earlier: Originals,
-    asked: &Asked<'_, '_>,
+    earlier: UndoLog,
+    requested: &BurstRequest<'_, '_>,
 ) -> Result<Left, Tables>
-    requires whole { AreWellFormed manner.now.rules.members (maps_of tables) }
+    requires whole { AreWellFormed profile.now.rules.members (maps_of tables) }
     requires here { NoneIsOut tables }
     requires ready { AreReady (keys_written earlier) tables }
-    requires unused { AreFreeSlots (maps_of tables) asked.now.owned.slots }
-    ensures ok { IfOk result (λ left. WasCarried manner.now asked.now tables earlier left.tables left.originals left.text) }
+    requires unused { AreFreeSlots (maps_of tables) requested.now.owned.slots }
+    ensures ok { IfOk result (λ left. WasCarried profile.now requested.now tables earlier left.tables left.undo_log left.text) }
     ensures err { IfErr result (AreAsBegun tables earlier) }
 {
     let mut draft = Draft::of_tables(tables, earlier);
     let mut block = Items::new(alloc);
-    let Ok(text) = carry_on(alloc, manner, asked, &mut draft, &mut block) else {
+    let Ok(text) = carry_on(alloc, profile, requested, &mut draft, &mut block) else {
         return Err(draft.undone());
     };
-    let (tables, originals) = draft.into_tables();
+    let (tables, undo_log) = draft.into_tables();
     Ok(Left {
         tables,
-        originals,
+        undo_log,
         text,
     })
 }
 
-fn is_closed(seat: &Seat<'_, '_, '_>) -> bool
-    ensures { result ≡ is_closed (standing_of seat.now.stage) }
+fn is_closed(board_entry: &BoardEntry<'_, '_, '_>) -> bool
+    ensures { result ≡ is_closed (standing_of board_entry.now.stage) }
 {
-    matches!(seat.stage, Stage::Closed(_))
+    matches!(board_entry.stage, Stage::Closed(_))
 }
 
 /// Whether one of these places is not closed.
-fn any_unclosed(seats: &[Seat<'_, '_, '_>]) -> bool
-    ensures { result ≡ list_any (λ s. not (is_closed (standing_of s.stage))) seats.now }
+fn any_unclosed(board_entries: &[BoardEntry<'_, '_, '_>]) -> bool
+    ensures { result ≡ list_any (λ s. not (is_closed (standing_of s.stage))) board_entries.now }
 {
-    seats.iter().any(|seat| !is_closed(seat))
+    board_entries
+        .iter()
+        .any(|board_entry| !is_closed(board_entry))
 }
 
 /// Whether a log is continued, or all keys are swept anyway: then keys may be prepared that it does not have.
-fn continues(sweeps_all: bool, earlier: &Originals) -> bool
+fn continues(sweeps_all: bool, earlier: &UndoLog) -> bool
     ensures before { result ≡ false → sweeps_all ≡ false }
     ensures none { result ≡ false → earlier.now ≡ [] }
 {
@@ -95,14 +97,14 @@ fn continues(sweeps_all: bool, earlier: &Originals) -> bool
 
 /// What a place requests, if it is pending.
 pub(crate) fn pending_at<'b, 'h, 'a>(
-    seats: &[Seat<'b, 'h, 'a>],
+    board_entries: &[BoardEntry<'b, 'h, 'a>],
     place: usize,
 ) -> Option<Task<'b, 'h, 'a>>
-    ensures { PendsAt (slice_get (map place_of seats.now) place) result }
+    ensures { PendsAt (slice_get (map place_of board_entries.now) place) result }
 {
-    let seat = seats.get(place)?;
-    match seat.stage {
-        Stage::Pending => Some(seat.task.task().again()),
+    let board_entry = board_entries.get(place)?;
+    match board_entry.stage {
+        Stage::Pending => Some(board_entry.task.again()),
         _ => None,
     }
 }
@@ -116,29 +118,29 @@ pub(crate) fn pending_at<'b, 'h, 'a>(
 /// Out of memory. The place stays pending, and nothing is known of the draft but its keys.
 fn carry_place<G: Gate>(
     alloc: Global,
-    manner: &Manner,
-    seats: &mut Vec<Seat<'_, '_, '_>>,
+    profile: &Profile,
+    board_entries: &mut Vec<BoardEntry<'_, '_, '_>>,
     place: usize,
     draft: &mut Draft,
     block: &mut Items<u8>,
     gate: &G,
 ) -> Result<(), NoMemory>
-    requires inside { place < length seats.old.items }
+    requires inside { place < length board_entries.old.items }
     requires over { draft.old.keys ≡ Over (start_of draft.old.keys) }
-    requires goes_on { (start : Stored) × MayGoOn manner.now start draft.old.maps (map place_of seats.old.items) }
-    requires first { AllClosed (take place (map place_of seats.old.items)) }
-    ensures goes_on { OnOk result ((start : Stored) → MayGoOn manner.now start draft.old.maps (map place_of seats.old.items) → MayGoOn manner.now start draft.new.maps (map place_of seats.new.items)) }
-    ensures closed { OnOk result (AllClosed (take (place + 1) (map place_of seats.new.items))) }
-    ensures asked { asked_of (map place_of seats.new.items) ≡ asked_of (map place_of seats.old.items) }
-    ensures len { vec_len seats.new ≡ vec_len seats.old }
+    requires goes_on { (start : Stored) × MayGoOn profile.now start draft.old.maps (map place_of board_entries.old.items) }
+    requires first { AllClosed (take place (map place_of board_entries.old.items)) }
+    ensures goes_on { OnOk result ((start : Stored) → MayGoOn profile.now start draft.old.maps (map place_of board_entries.old.items) → MayGoOn profile.now start draft.new.maps (map place_of board_entries.new.items)) }
+    ensures closed { OnOk result (AllClosed (take (place + 1) (map place_of board_entries.new.items))) }
+    ensures requested { requested_in (map place_of board_entries.new.items) ≡ requested_in (map place_of board_entries.old.items) }
+    ensures len { vec_len board_entries.new ≡ vec_len board_entries.old }
     ensures keys { draft.new.keys ≡ draft.old.keys }
 {
-    let Some(task) = pending_at(seats, place) else {
+    let Some(task) = pending_at(board_entries, place) else {
         return Ok(());
     };
     gate.pass(0);
-    let text = carry_on(alloc, manner, task.get(), draft, block)?;
-    set_stage(seats, place, Stage::Closed(text));
+    let text = carry_on(alloc, profile, task.get(), draft, block)?;
+    set_stage(board_entries, place, Stage::Closed(text));
     Ok(())
 }
 
@@ -150,22 +152,30 @@ fn carry_place<G: Gate>(
 /// Out of memory. Some places may be closed then, and nothing is known of the draft but its keys.
 fn carry_each<G: Gate>(
     alloc: Global,
-    manner: &Manner,
-    seats: &mut Vec<Seat<'_, '_, '_>>,
+    profile: &Profile,
+    board_entries: &mut Vec<BoardEntry<'_, '_, '_>>,
     draft: &mut Draft,
     gate: &G,
 ) -> Result<(), NoMemory>
     requires over { draft.old.keys ≡ Over (start_of draft.old.keys) }
-    requires goes_on { (start : Stored) × MayGoOn manner.now start draft.old.maps (map place_of seats.old.items) }
-    ensures goes_on { OnOk result ((start : Stored) → MayGoOn manner.now start draft.old.maps (map place_of seats.old.items) → MayGoOn manner.now start draft.new.maps (map place_of seats.new.items)) }
-    ensures closed { OnOk result (AllClosed (map place_of seats.new.items)) }
-    ensures asked { asked_of (map place_of seats.new.items) ≡ asked_of (map place_of seats.old.items) }
-    ensures len { vec_len seats.new ≡ vec_len seats.old }
+    requires goes_on { (start : Stored) × MayGoOn profile.now start draft.old.maps (map place_of board_entries.old.items) }
+    ensures goes_on { OnOk result ((start : Stored) → MayGoOn profile.now start draft.old.maps (map place_of board_entries.old.items) → MayGoOn profile.now start draft.new.maps (map place_of board_entries.new.items)) }
+    ensures closed { OnOk result (AllClosed (map place_of board_entries.new.items)) }
+    ensures requested { requested_in (map place_of board_entries.new.items) ≡ requested_in (map place_of board_entries.old.items) }
+    ensures len { vec_len board_entries.new ≡ vec_len board_entries.old }
     ensures keys { draft.new.keys ≡ draft.old.keys }
 {
     let mut block = Items::new(alloc);
-    for place in 0..seats.len() {
-        carry_place(alloc, manner, seats, place, draft, &mut block, gate)?;
+    for place in 0..board_entries.len() {
+        carry_place(
+            alloc,
+            profile,
+            board_entries,
+            place,
+            draft,
+            &mut block,
+            gate,
+        )?;
     }
     Ok(())
 }
@@ -178,8 +188,8 @@ impl Board<'_, '_, '_> {
         ensures first { FindsFirst self.now.places result }
         ensures pends { NothingIsOpen (core_of self.now) → IfSome result (λ place. is_pending_at (slice_get self.now.places place) ≡ true) }
     {
-        for place in from..self.seats.len() {
-            if !is_closed(&self.seats[place]) {
+        for place in from..self.board_entries.len() {
+            if !is_closed(&self.board_entries[place]) {
                 return Some(place);
             }
         }
@@ -192,8 +202,8 @@ impl Board<'_, '_, '_> {
     pub fn is_for_all(&self, place: usize) -> bool
         ensures { IsTrue result → IsSomeAnd (slice_get self.now.places place) IsWholeTable }
     {
-        match self.seats.get(place) {
-            Some(seat) => is_seen_for_all(seat.task.task().get()),
+        match self.board_entries.get(place) {
+            Some(board_entry) => is_seen_for_all(board_entry.task.get()),
             None => false,
         }
     }
@@ -202,8 +212,8 @@ impl Board<'_, '_, '_> {
     pub fn is_last(&self, place: usize) -> bool
         ensures { Decides result (AllClosed (drop (place + 1) self.now.places)) }
     {
-        if place < self.seats.len() {
-            !any_unclosed(&self.seats[place + 1..])
+        if place < self.board_entries.len() {
+            !any_unclosed(&self.board_entries[place + 1..])
         } else {
             true
         }
@@ -227,26 +237,26 @@ impl Board<'_, '_, '_> {
         ensures left { OnOk result (unclosed self.new.places + 1 ≡ unclosed self.old.places) }
         ensures same { IsSameBurst self.old self.new }
         ensures outcome { GivesTheFold self.new }
-        ensures err { OnErr result (self.new ≡ begun_board self.old.manner (asked_of self.old.places) self.old.start) }
+        ensures err { OnErr result (self.new ≡ begun_board self.old.profile (requested_in self.old.places) self.old.start) }
     {
         let Some(task) = self.pending_task(place) else {
             unreachable!()
         };
         let tables = mem::replace(&mut self.tables, Tables::new(alloc));
-        let earlier = last_alone(alloc, &mut self.originals);
+        let earlier = last_alone(alloc, &mut self.undo_log);
         self.sweeps_all = continues(self.sweeps_all, &earlier);
-        let left = match carry_in_place(alloc, &self.manner, tables, earlier, task.get()) {
+        let left = match carry_in_place(alloc, &self.profile, tables, earlier, task.get()) {
             Ok(left) => left,
             Err(tables) => {
                 self.tables = tables;
-                put_all_back(&mut self.tables, &mut self.originals);
-                all_pending(&mut self.seats);
+                put_all_back(&mut self.tables, &mut self.undo_log);
+                all_pending(&mut self.board_entries);
                 return Err(NoMemory);
             }
         };
         self.tables = left.tables;
-        set_stage(&mut self.seats, place, Stage::Closed(left.text));
-        let Ok(()) = self.originals.push(Original::of_writes(left.originals)) else {
+        set_stage(&mut self.board_entries, place, Stage::Closed(left.text));
+        let Ok(()) = self.undo_log.push(UndoStep::of_writes(left.undo_log)) else {
             unreachable!()
         };
         Ok(())
@@ -265,24 +275,30 @@ impl Board<'_, '_, '_> {
         ensures closed { OnOk result (AllClosed self.new.places) }
         ensures same { IsSameBurst self.old self.new }
         ensures outcome { GivesTheFold self.new }
-        ensures err { OnErr result (self.new ≡ begun_board self.old.manner (asked_of self.old.places) self.old.start) }
+        ensures err { OnErr result (self.new ≡ begun_board self.old.profile (requested_in self.old.places) self.old.start) }
     {
         if self.first_unclosed(0).is_none() {
             return Ok(());
         }
         let tables = mem::replace(&mut self.tables, Tables::new(alloc));
-        let earlier = last_alone(alloc, &mut self.originals);
+        let earlier = last_alone(alloc, &mut self.undo_log);
         self.sweeps_all = continues(self.sweeps_all, &earlier);
         let mut draft = Draft::of_tables(tables, earlier);
-        let Ok(()) = carry_each(alloc, &self.manner, &mut self.seats, &mut draft, gate) else {
+        let Ok(()) = carry_each(
+            alloc,
+            &self.profile,
+            &mut self.board_entries,
+            &mut draft,
+            gate,
+        ) else {
             self.tables = draft.undone();
-            put_all_back(&mut self.tables, &mut self.originals);
-            all_pending(&mut self.seats);
+            put_all_back(&mut self.tables, &mut self.undo_log);
+            all_pending(&mut self.board_entries);
             return Err(NoMemory);
         };
         let (tables, found) = draft.into_tables();
         self.tables = tables;
-        let Ok(()) = self.originals.push(Original::of_writes(found)) else {
+        let Ok(()) = self.undo_log.push(UndoStep::of_writes(found)) else {
             unreachable!()
         };
         Ok(())

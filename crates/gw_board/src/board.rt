@@ -8,11 +8,12 @@ ghost use Rattle.gw_board.specs.Boards.{begun_board, GivesTheFold};
 ghost use Rattle.gw_board.specs.Refused.{HandsBack};
 ghost use Rattle.gw_board.specs.Results.{slots_of};
 
-use crate::asked::Asked;
+use crate::board_entry::{BoardEntry, board_entries_of};
 use crate::fault::BoardFault;
-use crate::manner::Manner;
-use crate::original::Original;
-use crate::seat::{Seat, seats_of};
+use crate::links::Links;
+use crate::profile::Profile;
+use crate::requested::BurstRequest;
+use crate::undo_step::UndoStep;
 use gw_base::Items;
 use gw_table::Tables;
 use std::alloc::Global;
@@ -20,18 +21,18 @@ use std::marker::Model;
 use std::snapshot::Snapshot;
 
 /// Tables, and the places of a burst: which requests are pending, open or closed. A place is the number of a request
-/// in the burst, from 0. The entries that an open job may touch are out of the tables. Contracts see the maps, the
-/// places, the tables that the board was given, and the way back to their maps.
+/// in the burst, from 0. The entries that an open job may claim are out of the tables. Contracts see the maps, the
+/// places, the tables that the board was given, and the undo log that leads to their maps.
 #[derive(Drop)]
 pub struct Board<'b, 'h, 'a> {
     pub(crate) tables: Tables,
-    pub(crate) manner: Manner,
-    pub(crate) seats: Vec<Seat<'b, 'h, 'a>>,
-    /// The names of all places were gathered.
-    pub(crate) is_named: bool,
+    pub(crate) profile: Profile,
+    pub(crate) board_entries: Vec<BoardEntry<'b, 'h, 'a>>,
+    /// The links of each place: none until they are gathered for the first wave.
+    pub(crate) links: Vec<Links>,
     /// Keys may be prepared that are neither those of the journal nor of open jobs.
     pub(crate) sweeps_all: bool,
-    pub(crate) originals: Vec<Original>,
+    pub(crate) undo_log: Vec<UndoStep>,
     pub(crate) replies: Vec<Items<u8>>,
     pub(crate) start: Snapshot<Tables>,
 }
@@ -56,7 +57,7 @@ impl<'b, 'h, 'a> Model for Board<'b, 'h, 'a> {
 impl<'b, 'h, 'a> Board<'b, 'h, 'a> {
     /// A board on which every request is pending. The caller knows that the tables are well-formed, that nothing is
     /// out, and that the slots that the requests own are distinct and unused. Room for the replies and for the
-    /// originals is made here.
+    /// undo steps is made here.
     ///
     /// # Errors
     ///
@@ -64,33 +65,33 @@ impl<'b, 'h, 'a> Board<'b, 'h, 'a> {
     pub fn new(
         alloc: Global,
         tables: Tables,
-        manner: Manner,
-        asked: &'b [Asked<'h, 'a>],
+        profile: Profile,
+        requested: &'b [BurstRequest<'h, 'a>],
     ) -> Result<Board<'b, 'h, 'a>, BoardFault>
-        requires whole { AreWellFormed manner.rules.members (maps_of tables) }
+        requires whole { AreWellFormed profile.rules.members (maps_of tables) }
         requires here { NoneIsOut tables }
-        requires unused { AreUnused (maps_of tables) [] (slots_of asked.now) }
-        ensures board { IfOk result (λ board. board ≡ begun_board manner asked.now tables) }
+        requires unused { AreUnused (maps_of tables) [] (slots_of requested.now) }
+        ensures board { IfOk result (λ board. board ≡ begun_board profile requested.now tables) }
         ensures outcome { IfOk result GivesTheFold }
         ensures fault { IfErr result (HandsBack tables) }
     {
-        let Ok(seats) = seats_of(alloc, asked) else {
+        let Ok(board_entries) = board_entries_of(alloc, requested) else {
             return Err(BoardFault::NoMemory(tables));
         };
-        let Ok(originals) = Vec::with_capacity(alloc, asked.len()) else {
+        let Ok(undo_log) = Vec::with_capacity(alloc, requested.len()) else {
             return Err(BoardFault::NoMemory(tables));
         };
-        let Ok(replies) = Vec::with_capacity(alloc, asked.len()) else {
+        let Ok(replies) = Vec::with_capacity(alloc, requested.len()) else {
             return Err(BoardFault::NoMemory(tables));
         };
         let start = Snapshot::of(&tables);
         Ok(Board {
             tables,
-            manner,
-            seats,
-            is_named: false,
+            profile,
+            board_entries,
+            links: Vec::new(alloc),
             sweeps_all: false,
-            originals,
+            undo_log,
             replies,
             start,
         })

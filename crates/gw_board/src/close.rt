@@ -2,26 +2,26 @@
 
 ghost use Rattle.std.specs.Prelude.{◌≡◌, true};
 ghost use Rattle.gw_table.specs.Stored.{maps_of, AreSwept, AreSweptAmong, KeepReady, NoneIsOut};
-ghost use Rattle.gw_board.specs.Boards.{asked_of, after_end, AllClosed, core_of, GivesTheFold, HasOpen, outcome_of, unchanged, with_result};
+ghost use Rattle.gw_board.specs.Boards.{requested_in, after_end, AllClosed, core_of, GivesTheFold, HasOpen, outcome_of, unchanged, with_result};
 ghost use Rattle.gw_board.specs.Carried.{carried};
 ghost use Rattle.gw_board.specs.Fitting.{Each};
 ghost use Rattle.gw_board.specs.Jobs.{new_part};
 ghost use Rattle.gw_board.specs.Results.{NothingIsOpen};
 
 use crate::board::Board;
+use crate::board_entry::{BoardEntry, Stage, set_stage};
 use crate::job::{Done, Job};
 use crate::journal::put_all_back;
-use crate::original::Original;
-use crate::seat::{Seat, Stage, set_stage};
+use crate::undo_step::UndoStep;
 use gw_base::Items;
 use gw_table::{Part, Tables};
 
 /// Ends the preparation of keys that have no entry: of those of the journal, or of all.
-fn sweep_journal(tables: &mut Tables, originals: &[Original], all: bool)
+fn sweep_journal(tables: &mut Tables, undo_log: &[UndoStep], all: bool)
     requires { NoneIsOut tables.old }
     ensures maps { maps_of tables.new ≡ maps_of tables.old }
     ensures here { NoneIsOut tables.new }
-    ensures swept { Each (λ o. AreSweptAmong o.keys tables.new) originals.now }
+    ensures swept { Each (λ o. AreSweptAmong o.keys tables.new) undo_log.now }
     ensures all { all ≡ true → AreSwept tables.new }
     ensures fewer { KeepReady tables.new tables.old }
 {
@@ -29,8 +29,8 @@ fn sweep_journal(tables: &mut Tables, originals: &[Original], all: bool)
         tables.sweep();
         return;
     }
-    for original in originals {
-        original.sweep(tables);
+    for undo_step in undo_log {
+        undo_step.sweep(tables);
     }
 }
 
@@ -46,13 +46,13 @@ impl<'b, 'h, 'a> Board<'b, 'h, 'a> {
     {
         let Job {
             place,
-            manner: _,
+            profile: _,
             task: _,
-            part: original,
+            part: undo_step,
         } = job;
         self.tables.put_back(part);
-        set_stage(&mut self.seats, place, Stage::Closed(reply));
-        let Ok(()) = self.originals.push(Original::of_job(original)) else {
+        set_stage(&mut self.board_entries, place, Stage::Closed(reply));
+        let Ok(()) = self.undo_log.push(UndoStep::of_job(undo_step)) else {
             unreachable!()
         };
     }
@@ -65,13 +65,13 @@ impl<'b, 'h, 'a> Board<'b, 'h, 'a> {
     {
         let Job {
             place,
-            manner: _,
+            profile: _,
             task: _,
             part: back,
         } = job;
         self.tables.put_back(back);
         self.sweeps_all = true;
-        set_stage(&mut self.seats, place, Stage::Pending);
+        set_stage(&mut self.board_entries, place, Stage::Pending);
     }
 
     /// Closes a job. With its result, its new entries go into the tables, its reply stands at its place, and the part
@@ -89,7 +89,7 @@ impl<'b, 'h, 'a> Board<'b, 'h, 'a> {
         }
     }
 
-    /// The tables as they were when the board was made: the originals of the journal go back, the last one first. The
+    /// The tables as they were when the board was made: the undo steps of the journal go back, the last one first. The
     /// caller knows that nothing is open. No key without an entry stays prepared. The work is a look-up for each key
     /// of the journal, and one pass over all rows.
     pub fn undo(self) -> Tables
@@ -100,15 +100,15 @@ impl<'b, 'h, 'a> Board<'b, 'h, 'a> {
     {
         let Board {
             mut tables,
-            manner: _,
-            seats: _,
-            is_named: _,
+            profile: _,
+            board_entries: _,
+            links: _,
             sweeps_all: _,
-            mut originals,
+            mut undo_log,
             replies: _,
             start: _,
         } = self;
-        put_all_back(&mut tables, &mut originals);
+        put_all_back(&mut tables, &mut undo_log);
         tables
     }
 
@@ -119,23 +119,23 @@ impl<'b, 'h, 'a> Board<'b, 'h, 'a> {
     /// continued, or where a job was closed unchanged.
     pub fn finish(self) -> (Tables, Vec<Items<u8>>)
         requires { AllClosed self.places }
-        ensures maps { maps_of result.0 ≡ (carried self.entry.manner (asked_of self.entry.places) (maps_of self.entry.start)).maps }
-        ensures replies { result.1.items ≡ (carried self.entry.manner (asked_of self.entry.places) (maps_of self.entry.start)).answer }
+        ensures maps { maps_of result.0 ≡ (carried self.entry.profile (requested_in self.entry.places) (maps_of self.entry.start)).maps }
+        ensures replies { result.1.items ≡ (carried self.entry.profile (requested_in self.entry.places) (maps_of self.entry.start)).answer }
         ensures here { NoneIsOut result.0 }
         ensures swept { AreSwept self.entry.start → AreSwept result.0 }
     {
         let Board {
             mut tables,
-            manner: _,
-            seats,
-            is_named: _,
+            profile: _,
+            board_entries,
+            links: _,
             sweeps_all,
-            originals,
+            undo_log,
             mut replies,
             start: _,
         } = self;
-        for seat in seats {
-            let Seat { task: _, stage } = seat;
+        for board_entry in board_entries {
+            let BoardEntry { task: _, stage } = board_entry;
             let Stage::Closed(reply) = stage else {
                 unreachable!()
             };
@@ -143,7 +143,7 @@ impl<'b, 'h, 'a> Board<'b, 'h, 'a> {
                 unreachable!()
             };
         }
-        sweep_journal(&mut tables, &originals, sweeps_all);
+        sweep_journal(&mut tables, &undo_log, sweeps_all);
         (tables, replies)
     }
 }

@@ -11,7 +11,7 @@ use thiserror::Error;
 /// Why a board is not made. The tables come back as they were.
 #[derive(Drop)]
 pub enum BoardFault {
-    /// A growth was refused.
+    /// An allocation was refused.
     NoMemory(Tables),
 }
 
@@ -24,7 +24,7 @@ pub enum OpenFault {
     /// The first earlier place, pending or open, whose keys its keys meet.
     #[error("place {0} comes first")]
     Meets(usize),
-    /// A growth was refused.
+    /// An allocation was refused.
     #[error("no memory")]
     NoMemory,
 }

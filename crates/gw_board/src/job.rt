@@ -1,4 +1,4 @@
-//! Jobs: pending requests that are handed out, each with the entries that it may touch.
+//! Jobs: pending requests that are handed out, each with the entries that it may claim.
 
 ghost use Rattle.std.specs.Prelude.{◌≡◌, IfOk, OnOk, true, false};
 ghost use Rattle.gw_reserve.specs.Owned.{AreFreeSlots};
@@ -7,9 +7,9 @@ ghost use Rattle.gw_board.specs.Boards.{outcome_of};
 ghost use Rattle.gw_board.specs.Carried.{keys_of, done};
 ghost use Rattle.gw_board.specs.Jobs.{new_part};
 
-use crate::asked::{Asked, Task};
-use crate::manner::Manner;
-use crate::reply::{reply_limit, text_told};
+use crate::profile::Profile;
+use crate::reply::{reply_limit, text_of_reply};
+use crate::requested::{BurstRequest, Task};
 use bumpalo::Bump;
 use gw_base::{Items, NoMemory};
 use gw_table::{Draft, Part};
@@ -18,12 +18,12 @@ use std::alloc::Global;
 use std::marker::Model;
 use std::mem;
 
-/// A request of an open place, with the entries that it may touch, which are out of the tables meanwhile. It may be
+/// A request of an open place, with the entries that it may claim, which are out of the tables meanwhile. It may be
 /// executed wherever its owner likes.
 #[derive(Drop)]
 pub struct Job<'b, 'h, 'a> {
     pub(crate) place: usize,
-    pub(crate) manner: Manner,
+    pub(crate) profile: Profile,
     pub(crate) task: Task<'b, 'h, 'a>,
     pub(crate) part: Part,
 }
@@ -40,9 +40,9 @@ impl<'b, 'h, 'a> Model for Job<'b, 'h, 'a> {
 
     ghost coded = { Prim.hlevel (codes, coded_maps) };
 
-    ghost view = { λ a. record { manner = a.manner; place = a.place; asked = a.task; keys = list_of a.part.keys; part = a.part.maps } };
+    ghost view = { λ a. record { profile = a.profile; place = a.place; requested = a.task; keys = list_of a.part.keys; part = a.part.maps } };
 
-    ghost invariant = { λ a. (a.part.keys ≡ Only (list_of a.part.keys)) × IsJob (record { manner = a.manner; place = a.place; asked = a.task; keys = list_of a.part.keys; part = a.part.maps }) };
+    ghost invariant = { λ a. (a.part.keys ≡ Only (list_of a.part.keys)) × IsJob (record { profile = a.profile; place = a.place; requested = a.task; keys = list_of a.part.keys; part = a.part.maps }) };
 }
 
 impl Job<'_, '_, '_> {
@@ -62,33 +62,33 @@ impl Job<'_, '_, '_> {
 /// Out of memory. Nothing is known of the draft then but its keys.
 pub(crate) fn carry_on(
     alloc: Global,
-    manner: &Manner,
-    asked: &Asked<'_, '_>,
+    profile: &Profile,
+    requested: &BurstRequest<'_, '_>,
     draft: &mut Draft,
     block: &mut Items<u8>,
 ) -> Result<Items<u8>, NoMemory>
-    requires covered { Covers draft.old (keys_of asked.now draft.old.maps) }
-    requires unused { AreFreeSlots draft.old.maps asked.now.owned.slots }
-    ensures maps { OnOk result (draft.new.maps ≡ (done manner.now asked.now draft.old.maps).maps) }
-    ensures reply { IfOk result (λ text. text ≡ (done manner.now asked.now draft.old.maps).answer) }
+    requires covered { Covers draft.old (keys_of requested.now draft.old.maps) }
+    requires unused { AreFreeSlots draft.old.maps requested.now.owned.slots }
+    ensures maps { OnOk result (draft.new.maps ≡ (done profile.now requested.now draft.old.maps).maps) }
+    ensures reply { IfOk result (λ text. text ≡ (done profile.now requested.now draft.old.maps).answer) }
     ensures keys { draft.new.keys ≡ draft.old.keys }
 {
     let scratch = Bump::new(alloc);
-    let request = asked.request.tree(&scratch)?;
-    let mid = &manner.mid;
+    let request = requested.request.tree(&scratch)?;
+    let mid = &profile.mid;
     let limit = reply_limit(mid);
     let room = mem::replace(block, Items::new(alloc));
-    let told = transaction_within(
+    let limited_text = transaction_within(
         alloc,
-        &manner.rules,
+        &profile.rules,
         draft,
         request,
-        &asked.owned,
+        &requested.owned,
         room,
         limit,
     )?;
-    let text = text_told(alloc, mid, request.id, &told)?;
-    *block = told.into_block(alloc);
+    let text = text_of_reply(alloc, mid, request.id, &limited_text)?;
+    *block = limited_text.into_block(alloc);
     Ok(text)
 }
 
@@ -104,7 +104,7 @@ pub fn carry(alloc: Global, job: &Job<'_, '_, '_>) -> Result<(Part, Items<u8>), 
 {
     let mut draft = Draft::of_part(job.part.copy(alloc)?);
     let mut block = Items::new(alloc);
-    let text = carry_on(alloc, &job.manner, job.task.get(), &mut draft, &mut block)?;
+    let text = carry_on(alloc, &job.profile, job.task.get(), &mut draft, &mut block)?;
     Ok((draft.into_part(), text))
 }
 

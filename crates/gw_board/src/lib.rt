@@ -2,34 +2,33 @@
 #![tactic(auto)]
 
 mod alone;
-mod asked;
 mod board;
+mod board_entry;
 mod close;
 mod fault;
 mod job;
 mod journal;
 mod laws;
-mod manner;
+mod links;
 mod named;
-mod namers;
 mod open;
-mod original;
 mod plan;
 mod planned;
+mod profile;
 mod reply;
-mod seat;
-mod touch;
+mod requested;
+mod undo_step;
 mod waiting;
 mod wave;
 
-pub use asked::{Asked, Lent};
 pub use board::Board;
 pub use fault::{BoardFault, OpenFault};
 pub use job::{Done, Job, carry};
 pub use laws::{
     events_leave_what_a_state_comes_to, lawful_events_give_the_fold, open_jobs_may_be_drawn,
-    originals_give_the_tables_back, planned_keys_stay, planned_places_are_opened,
+    planned_keys_stay, planned_places_are_opened, undo_logs_give_the_tables_back,
     waves_may_be_opened, what_is_open_may_be_closed,
 };
-pub use manner::Manner;
 pub use planned::Planned;
+pub use profile::Profile;
+pub use requested::{BurstRequest, RequestRef};

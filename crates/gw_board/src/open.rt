@@ -11,16 +11,16 @@ ghost use Rattle.gw_board.specs.Carried.{keys_of};
 ghost use Rattle.gw_board.specs.Core.{pending, meets_at, MayOpen};
 ghost use Rattle.gw_board.specs.Met.{FindsFirstMet, IsRefused, PendsAt};
 ghost use Rattle.gw_board.specs.Planned.{MayOpenInTurn, MayOpenWith};
-ghost use Rattle.gw_board.specs.Seats.{standing_of, place_of};
+ghost use Rattle.gw_board.specs.BoardEntries.{standing_of, place_of};
 ghost use Rattle.gw_board.specs.declared.planned.Planned.{Planned as APlanned};
 
 use crate::alone::pending_at;
-use crate::asked::Task;
 use crate::board::Board;
+use crate::board_entry::{BoardEntry, Stage, set_stage};
 use crate::fault::OpenFault;
 use crate::job::Job;
 use crate::planned::Planned;
-use crate::seat::{Seat, Stage, set_stage};
+use crate::requested::Task;
 use bumpalo::Bump;
 use gw_base::{Key, NoMemory};
 use gw_foot::{footprint, meets};
@@ -36,10 +36,10 @@ pub(crate) fn keys_of(
 ) -> Result<Keys, NoMemory>
     ensures { IfOk result (λ keys. IsListOf keys (keys_of task.now (maps_of tables.now))) }
 {
-    let asked = task.get();
+    let requested = task.get();
     let scratch = Bump::new(alloc);
-    let tree = asked.request.tree(&scratch)?;
-    footprint(alloc, tables, tree, &asked.owned)
+    let tree = requested.request.tree(&scratch)?;
+    footprint(alloc, tables, tree, &requested.owned)
 }
 
 /// Whether two keys are the same.
@@ -78,14 +78,14 @@ fn lists_meet(a: &[Key], b: &[Key]) -> bool
 fn does_meet(
     alloc: Global,
     tables: &Tables,
-    seat: &Seat<'_, '_, '_>,
+    board_entry: &BoardEntry<'_, '_, '_>,
     keys: &Keys,
 ) -> Result<bool, NoMemory>
-    ensures { IfOk result (λ met. met ≡ meets_at keys.now (maps_of tables.now) seat.now.task (standing_of seat.now.stage)) }
+    ensures { IfOk result (λ met. met ≡ meets_at keys.now (maps_of tables.now) board_entry.now.task (standing_of board_entry.now.stage)) }
 {
-    match &seat.stage {
+    match &board_entry.stage {
         Stage::Pending => {
-            let theirs = keys_of(alloc, tables, seat.task.task())?;
+            let theirs = keys_of(alloc, tables, &board_entry.task)?;
             Ok(meets(&theirs, keys))
         }
         Stage::Opened { keys: theirs, .. } => Ok(lists_meet(theirs, keys.list())),
@@ -97,13 +97,13 @@ fn does_meet(
 fn first_met(
     alloc: Global,
     tables: &Tables,
-    seats: &[Seat<'_, '_, '_>],
+    board_entries: &[BoardEntry<'_, '_, '_>],
     keys: &Keys,
 ) -> Result<Option<usize>, NoMemory>
-    ensures { IfOk result (FindsFirstMet keys.now (maps_of tables.now) (map place_of seats.now)) }
+    ensures { IfOk result (FindsFirstMet keys.now (maps_of tables.now) (map place_of board_entries.now)) }
 {
-    for (at, seat) in seats.iter().enumerate() {
-        if does_meet(alloc, tables, seat, keys)? {
+    for (at, board_entry) in board_entries.iter().enumerate() {
+        if does_meet(alloc, tables, board_entry, keys)? {
             return Ok(Some(at));
         }
     }
@@ -115,7 +115,7 @@ impl<'b, 'h, 'a> Board<'b, 'h, 'a> {
     pub(crate) fn pending_task(&self, place: usize) -> Option<Task<'b, 'h, 'a>>
         ensures { PendsAt (slice_get self.now.places place) result }
     {
-        pending_at(&self.seats, place)
+        pending_at(&self.board_entries, place)
     }
 
     /// The keys of a pending place, which meet those of no earlier one.
@@ -130,7 +130,7 @@ impl<'b, 'h, 'a> Board<'b, 'h, 'a> {
         ensures fault { IfErr result (IsRefused self.now place) }
     {
         let keys = keys_of(alloc, &self.tables, task)?;
-        match first_met(alloc, &self.tables, &self.seats[..place], &keys)? {
+        match first_met(alloc, &self.tables, &self.board_entries[..place], &keys)? {
             Some(earlier) => Err(OpenFault::Meets(earlier)),
             None => Ok(keys),
         }
@@ -151,24 +151,25 @@ impl<'b, 'h, 'a> Board<'b, 'h, 'a> {
         ensures err { OnErr result (self.new ≡ self.old) }
     {
         let listed = Vec::from_slice(alloc, keys.list())?;
-        let Ok(()) = self.tables.reserve_slots(&listed) else {
+        let mut prepared = keys;
+        let Ok(()) = self.tables.prepare(&mut prepared) else {
             self.sweeps_all = true;
             return Err(NoMemory);
         };
-        let part = self.tables.take_out(keys);
-        let shown = Snapshot::of(&part);
-        let manner = self.manner;
+        let part = self.tables.take_out(prepared);
+        let visible = Snapshot::of(&part);
+        let profile = self.profile;
         set_stage(
-            &mut self.seats,
+            &mut self.board_entries,
             place,
             Stage::Opened {
                 keys: listed,
-                part: shown,
+                part: visible,
             },
         );
         Ok(Job {
             place,
-            manner,
+            profile,
             task,
             part,
         })

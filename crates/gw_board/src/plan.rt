@@ -1,26 +1,27 @@
 //! Which places may be opened together.
 
-ghost use Rattle.std.specs.Prelude.{◌≡◌, ◌≤◌, ◌<◌, ◌++◌, ◌||◌, ◌&&◌, ℕ, true, not, length, map, is_some, IsTrue, List, IfOk, IfSome, OnOk};
+ghost use Rattle.std.specs.Prelude.{◌≡◌, ◌≤◌, ◌<◌, ◌++◌, ◌||◌, ◌&&◌, ℕ, not, length, map, take, is_some, IsTrue, List, IfOk, IfSome, OnOk};
 ghost use Rattle.gw_base.specs.declared.key.Key.{Key as AKey};
+ghost use Rattle.gw_table.specs.Maps.{Maps};
 ghost use Rattle.gw_table.specs.Stored.{maps_of};
 ghost use Rattle.gw_foot.specs.Meets.{meets};
-ghost use Rattle.gw_board.specs.Boards.{core_of};
+ghost use Rattle.gw_board.specs.Boards.{requested_in, core_of, AllClosed};
 ghost use Rattle.gw_board.specs.Carried.{keys_of};
 ghost use Rattle.gw_board.specs.Core.{AreKeysOf};
+ghost use Rattle.gw_board.specs.Links.{AreLinked};
 ghost use Rattle.gw_board.specs.Named.{IsNoneOfWave};
 ghost use Rattle.gw_board.specs.Planned.{IsPlan, MayOpenInTurn, planned_with};
 ghost use Rattle.gw_board.specs.Results.{NothingIsOpen};
-ghost use Rattle.gw_board.specs.Seats.{standing_of, place_of};
+ghost use Rattle.gw_board.specs.BoardEntries.{standing_of, place_of};
 ghost use Rattle.gw_board.specs.Waiting.{meet_waiting};
 ghost use Rattle.gw_board.specs.Waves.{is_pending, wave};
 
-use crate::asked::is_seen_for_all;
 use crate::board::Board;
-use crate::namers::Namers;
+use crate::board_entry::{BoardEntry, Stage, is_pending};
+use crate::links::Links;
 use crate::open::keys_of;
 use crate::planned::Planned;
-use crate::seat::{Seat, Stage};
-use crate::touch::Link;
+use crate::requested::is_seen_for_all;
 use crate::waiting::Waiting;
 use gw_base::NoMemory;
 use gw_table::{Keys, Tables};
@@ -31,25 +32,24 @@ use std::alloc::Global;
 fn join_waiting(
     alloc: Global,
     tables: &Tables,
-    seat: &Seat<'_, '_, '_>,
+    board_entry: &BoardEntry<'_, '_, '_>,
     waiting: &mut Waiting,
 ) -> Result<Option<Keys>, NoMemory>
-    ensures free { IfOk result (λ found. is_some found ≡ (is_pending (standing_of seat.now.stage) && not (meet_waiting waiting.old (keys_of seat.now.task (maps_of tables.now))))) }
-    ensures keys { IfOk result (λ found. IfSome found (AreKeysOf seat.now.task (maps_of tables.now))) }
-    ensures waiting { OnOk result ((k : List AKey) → meet_waiting waiting.new k ≡ (meet_waiting waiting.old k || (is_pending (standing_of seat.now.stage) && meets (keys_of seat.now.task (maps_of tables.now)) k))) }
+    ensures free { IfOk result (λ found. is_some found ≡ (is_pending (standing_of board_entry.now.stage) && not (meet_waiting waiting.old (keys_of board_entry.now.task (maps_of tables.now))))) }
+    ensures keys { IfOk result (λ found. IfSome found (AreKeysOf board_entry.now.task (maps_of tables.now))) }
+    ensures waiting { OnOk result ((k : List AKey) → meet_waiting waiting.new k ≡ (meet_waiting waiting.old k || (is_pending (standing_of board_entry.now.stage) && meets (keys_of board_entry.now.task (maps_of tables.now)) k))) }
 {
-    let Stage::Pending = seat.stage else {
+    let Stage::Pending = board_entry.stage else {
         return Ok(None);
     };
-    let task = seat.task.task();
+    let task = &board_entry.task;
     if waiting.is_any() && is_seen_for_all(task.get()) {
         waiting.add_whole();
         return Ok(None);
     }
     let keys = keys_of(alloc, tables, task)?;
-    let free = !waiting.meets(keys.list());
-    waiting.add(keys.list())?;
-    Ok(free.then_some(keys))
+    let is_met = waiting.add(keys.list())?;
+    Ok((!is_met).then_some(keys))
 }
 
 /// The place goes last, if it is in the wave.
@@ -62,90 +62,36 @@ fn note_place(planned: &mut Vec<Planned>, place: usize, found: Option<Keys>) -> 
     Ok(())
 }
 
-/// Whether a place is pending and the link shows that it names what this one names, or something in one context with
-/// it, so that their keys meet.
-fn is_ahead(tables: &Tables, seat: &Seat<'_, '_, '_>, mine: &Seat<'_, '_, '_>, link: Link) -> bool
-    ensures { IsTrue result → (is_pending (standing_of seat.now.stage) && meets (keys_of seat.now.task (maps_of tables.now)) (keys_of mine.now.task (maps_of tables.now))) ≡ true }
+/// Whether a place is not in the wave, as far as links show: it is not pending, or it waits for an earlier pending
+/// place that names what it names.
+fn waits(board_entries: &[BoardEntry<'_, '_, '_>], links: &[Links], at: usize) -> bool
+    requires inside { at < length board_entries.now }
+    requires links { AreLinked (requested_in (map place_of board_entries.now)) links.now }
+    ensures { IsTrue result → (m : Maps) → IsNoneOfWave m (map place_of board_entries.now) at }
 {
-    match seat.stage {
-        Stage::Pending => mine.task.is_linked(tables, &seat.task, link),
-        _ => false,
-    }
-}
-
-/// Whether a place waits for one that is linked to it.
-fn waits_for(tables: &Tables, seats: &[Seat<'_, '_, '_>], at: usize, link: Link) -> bool
-    requires { at < length seats.now }
-    ensures { IsTrue result → IsNoneOfWave (maps_of tables.now) (map place_of seats.now) at }
-{
-    if at <= link.place {
-        return false;
-    }
-    is_ahead(tables, &seats[link.place], &seats[at], link)
-}
-
-/// Whether a place waits for an earlier one that names what it names. Of the places that name a thing it is enough to
-/// look at the last before this one, since it waits for those before it. One that does not wait any more is not
-/// looked at again.
-fn waits_by_name(tables: &Tables, seats: &[Seat<'_, '_, '_>], at: usize) -> bool
-    requires { at < length seats.now }
-    ensures { IsTrue result → IsNoneOfWave (maps_of tables.now) (map place_of seats.now) at }
-{
-    let task = &seats[at].task;
-    let links = task.links();
-    for next in task.watched()..links.len() {
-        if waits_for(tables, seats, at, links[next]) {
-            task.watch(next);
-            return true;
-        }
-    }
-    task.watch(links.len());
-    false
-}
-
-/// Whether a place is not in the wave, as far as its links show: it is not pending, or it waits for an earlier
-/// pending place that names what it names, or for the one that was seen to have a context in common with it.
-fn waits(tables: &Tables, seats: &[Seat<'_, '_, '_>], at: usize) -> bool
-    requires { at < length seats.now }
-    ensures { IsTrue result → IsNoneOfWave (maps_of tables.now) (map place_of seats.now) at }
-{
-    let Stage::Pending = seats[at].stage else {
-        return true;
-    };
-    if waits_by_name(tables, seats, at) {
+    if !is_pending(&board_entries[at]) {
         return true;
     }
-    match seats[at].task.beside() {
-        Some(link) => waits_for(tables, seats, at, link),
+    match links.get(at) {
+        Some(links) => links.wait(board_entries, at),
         None => false,
     }
 }
 
-/// The place behind the last that may be in the wave.
-fn end_of_wave(tables: &Tables, seats: &[Seat<'_, '_, '_>]) -> usize
-    ensures end { result ≤ length seats.now }
-    ensures behind { (i : ℕ) → result ≤ i → i < length seats.now → IsNoneOfWave (maps_of tables.now) (map place_of seats.now) i }
+/// The place behind the last that may be in the wave. The caller knows that the places before `from` are closed.
+fn end_of_wave(board_entries: &[BoardEntry<'_, '_, '_>], links: &[Links], from: usize) -> usize
+    requires links { AreLinked (requested_in (map place_of board_entries.now)) links.now }
+    requires closed { AllClosed (take from (map place_of board_entries.now)) }
+    ensures end { result ≤ length board_entries.now }
+    ensures behind { (i : ℕ) → result ≤ i → i < length board_entries.now → (m : Maps) → IsNoneOfWave m (map place_of board_entries.now) i }
 {
     let mut end = 0;
-    for at in 0..seats.len() {
-        if !waits(tables, seats, at) {
+    for at in from..board_entries.len() {
+        if !waits(board_entries, links, at) {
             end = at + 1;
         }
     }
     end
-}
-
-/// Where a pending place is looked at in the tables, the last earlier one with a context in common is remembered.
-fn watch_contexts(
-    tables: &Tables,
-    seat: &Seat<'_, '_, '_>,
-    place: usize,
-    holders: &mut Namers,
-) -> Result<(), NoMemory> {
-    match seat.stage {
-        Stage::Pending => seat.task.watch_contexts(tables, place, holders),
-        _ => Ok(()),
-    }
 }
 
 fn places_of(alloc: Global, planned: &[Planned]) -> Result<Vec<usize>, NoMemory>
@@ -175,7 +121,7 @@ impl Board<'_, '_, '_> {
 
     /// The next wave, as of `plan`, each place with its keys. While nothing is open, `open_planned` opens them in
     /// this order, one after another. Nothing behind a whole-table place is looked at, nor are the keys of such a
-    /// place gathered, where one before it is pending. Once `open_wave` has gathered the names of requests, a place
+    /// place gathered, where one before it is pending. Once `plan_next` has gathered the names of requests, a place
     /// that waits for an earlier one which names a context or a termination that it names is not looked at in the
     /// tables either, but where a later one may be in the wave. With n keys of the places that are looked at the work
     /// is n log n.
@@ -187,16 +133,25 @@ impl Board<'_, '_, '_> {
         ensures plan { IfOk result (λ planned. IsPlan self.now planned.items) }
         ensures in_turn { IfOk result (λ planned. NothingIsOpen (core_of self.now) → MayOpenInTurn self.now planned.items) }
     {
+        self.plan_from(alloc, 0)
+    }
+
+    /// The next wave, as of `plan_wave`. The caller knows that the places before `from` are closed, which are not
+    /// looked at.
+    pub(crate) fn plan_from(&self, alloc: Global, from: usize) -> Result<Vec<Planned>, NoMemory>
+        requires inside { from ≤ length self.now.places }
+        requires closed { AllClosed (take from self.now.places) }
+        ensures plan { IfOk result (λ planned. IsPlan self.now planned.items) }
+        ensures in_turn { IfOk result (λ planned. NothingIsOpen (core_of self.now) → MayOpenInTurn self.now planned.items) }
+    {
         let mut planned = Vec::new(alloc);
         let mut waiting = Waiting::new(alloc);
-        let mut holders = Namers::new(alloc);
-        let may_be = &self.seats[..end_of_wave(&self.tables, &self.seats)];
-        for (at, seat) in may_be.iter().enumerate() {
+        for at in from..end_of_wave(&self.board_entries, &self.links, from) {
             if waiting.is_whole() {
                 return Ok(planned);
             }
-            watch_contexts(&self.tables, seat, at, &mut holders)?;
-            let found = join_waiting(alloc, &self.tables, seat, &mut waiting)?;
+            let board_entry = &self.board_entries[at];
+            let found = join_waiting(alloc, &self.tables, board_entry, &mut waiting)?;
             note_place(&mut planned, at, found)?;
         }
         Ok(planned)

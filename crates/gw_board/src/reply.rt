@@ -3,18 +3,18 @@
 ghost use Rattle.std.specs.Prelude.{◌≡◌, IfOk, option_copied, slice_get};
 ghost use Rattle.gw_reply.specs.Messages.{reply_text};
 ghost use Rattle.gw_reply.specs.declared.reply.TxReply.{TxReply};
-ghost use Rattle.gw_tx.specs.Told.{within};
+ghost use Rattle.gw_tx.specs.LimitedText.{within};
 ghost use Rattle.gw_table.specs.Stored.{maps_of};
-ghost use Rattle.gw_board.specs.Boards.{AllClosed, asked_of, reply_of, reply_at};
+ghost use Rattle.gw_board.specs.Boards.{AllClosed, requested_in, reply_of, reply_at};
 ghost use Rattle.gw_board.specs.Carried.{carried};
 ghost use Rattle.gw_board.specs.Limits.{reply_limit};
-ghost use Rattle.gw_board.specs.Seats.{standing_of};
+ghost use Rattle.gw_board.specs.BoardEntries.{standing_of};
 
 use crate::board::Board;
-use crate::seat::Stage;
+use crate::board_entry::Stage;
 use gw_base::{Code, Items, Mid, NoMemory, TxId};
 use gw_reply::{TxReply, write_framed_reply, write_reply};
-use gw_tx::Told;
+use gw_tx::LimitedText;
 use std::alloc::Global;
 
 /// How many bytes a message with a reply may have.
@@ -29,20 +29,20 @@ pub(crate) fn reply_limit(mid: &Mid) -> usize
 
 /// The text of the reply to the transaction of this number, of which this was written within the limit: where it is
 /// too long, that of error 533 in its place.
-pub(crate) fn text_told(
+pub(crate) fn text_of_reply(
     alloc: Global,
     mid: &Mid,
     id: TxId,
-    told: &Told,
+    limited_text: &LimitedText,
 ) -> Result<Items<u8>, NoMemory>
-    ensures { (reply : TxReply) → told.now ≡ within (reply_limit mid.now) reply → reply.id ≡ id → IfOk result (λ text. text ≡ reply_text mid.now reply) }
+    ensures { (reply : TxReply) → limited_text.now ≡ within (reply_limit mid.now) reply → reply.id ≡ id → IfOk result (λ text. text ≡ reply_text mid.now reply) }
 {
-    match told {
-        Told::Whole(actions) => {
+    match limited_text {
+        LimitedText::Whole(actions) => {
             let text = write_framed_reply(alloc, id, actions.as_slice(), mid)?;
             Ok(Items::from(text))
         }
-        Told::TooLong => {
+        LimitedText::TooLong => {
             let short = TxReply {
                 id,
                 result: Err(Code::ReplyTooLong),
@@ -67,10 +67,10 @@ impl Board<'_, '_, '_> {
     /// executing all requests one after another answers there.
     pub fn reply_at(&self, place: usize) -> Option<&[u8]>
         ensures reply { option_copied result ≡ reply_at (slice_get self.now.places place) }
-        ensures all { AllClosed self.now.places → option_copied result ≡ slice_get (carried self.now.manner (asked_of self.now.places) (maps_of self.now.start)).answer place }
+        ensures all { AllClosed self.now.places → option_copied result ≡ slice_get (carried self.now.profile (requested_in self.now.places) (maps_of self.now.start)).answer place }
     {
-        match self.seats.get(place) {
-            Some(seat) => text_in(&seat.stage),
+        match self.board_entries.get(place) {
+            Some(board_entry) => text_in(&board_entry.stage),
             None => None,
         }
     }

@@ -1,24 +1,23 @@
-//! The keys of places that wait, in order.
+//! The keys of places that wait.
 
-ghost use Rattle.std.specs.Prelude.{◌≡◌, ◌||◌, ◌&&◌, true, false, List, OnOk};
+ghost use Rattle.std.specs.Prelude.{◌≡◌, ◌||◌, ◌&&◌, true, false, List, IfOk, OnOk};
 ghost use Rattle.std.specs.List.{list_any};
 ghost use Rattle.gw_base.specs.declared.key.Key.{Key as AKey};
-ghost use Rattle.gw_base.specs.declared.key.Key.TheVariants.{Whole};
 ghost use Rattle.gw_base.specs.Keys.{has, same_key};
 ghost use Rattle.gw_foot.specs.Meets.{meets};
+ghost use Rattle.gw_table.specs.KeyLists.{IsInOrder};
 ghost use Rattle.gw_board.specs.Waiting.{is_waiting, meet_waiting};
 
-use crate::open::has_key;
 use gw_base::{Key, NoMemory, TermName};
+use indexmap::IndexSet;
 use std::alloc::Global;
-use std::collections::BTreeSet;
 
-/// The keys of places that wait, and whether one of them is whole-table. Then all keys are waited for, and no more
-/// are logged.
+/// The keys of places that wait, whether there is such a place, and whether one of them is whole-table. Then all keys
+/// are waited for.
 #[derive(Drop)]
 pub(crate) struct Waiting {
-    terms: BTreeSet<TermName>,
-    contexts: BTreeSet<u32>,
+    terms: IndexSet<TermName>,
+    contexts: IndexSet<u32>,
     is_any: bool,
     is_whole: bool,
 }
@@ -29,8 +28,8 @@ impl Waiting {
         ensures { (keys : List AKey) → meet_waiting result keys ≡ false }
     {
         Waiting {
-            terms: BTreeSet::new(alloc),
-            contexts: BTreeSet::new(alloc),
+            terms: IndexSet::new(alloc),
+            contexts: IndexSet::new(alloc),
             is_any: false,
             is_whole: false,
         }
@@ -50,53 +49,35 @@ impl Waiting {
         self.is_whole
     }
 
-    fn has(&self, key: &Key) -> bool
-        ensures { result ≡ is_waiting self.now key.now }
-    {
-        match key {
-            Key::Term(name) => self.terms.contains(name),
-            Key::Ctx(number) => self.contexts.contains(&number.0),
-            Key::Whole => self.is_whole,
-        }
-    }
-
-    fn has_one(&self, keys: &[Key]) -> bool
-        ensures { result ≡ list_any (is_waiting self.now) keys.now }
-    {
-        keys.iter().any(|key| self.has(key))
-    }
-
-    /// Whether the keys meet those of a place that waits. With n keys that wait each takes log n steps.
-    pub(crate) fn meets(&self, keys: &[Key]) -> bool
-        ensures { result ≡ meet_waiting self.now keys.now }
-    {
-        self.is_whole || (self.is_any && has_key(keys, &Key::Whole)) || self.has_one(keys)
-    }
-
-    fn note(&mut self, key: &Key) -> Result<(), NoMemory>
+    /// Adds a key, and answers whether it was there.
+    fn add_key(&mut self, key: &Key) -> Result<bool, NoMemory>
+        ensures had { IfOk result (λ had. had ≡ is_waiting self.old key.now) }
         ensures keys { OnOk result ((k : AKey) → is_waiting self.new k ≡ (same_key k key.now || is_waiting self.old k)) }
         ensures any { self.new.is_any ≡ self.old.is_any }
     {
         match key {
-            Key::Term(name) => {
-                self.terms.insert(*name)?;
+            Key::Term(name) => Ok(!self.terms.insert(*name)?),
+            Key::Ctx(number) => Ok(!self.contexts.insert(number.0)?),
+            Key::Whole => {
+                let had = self.is_whole;
+                self.is_whole = true;
+                Ok(had)
             }
-            Key::Ctx(number) => {
-                self.contexts.insert(number.0)?;
-            }
-            Key::Whole => self.is_whole = true,
         }
-        Ok(())
     }
 
-    fn note_each(&mut self, keys: &[Key]) -> Result<(), NoMemory>
+    /// Adds keys in order, and answers whether one of them was there.
+    fn add_keys(&mut self, keys: &[Key]) -> Result<bool, NoMemory>
+        requires { IsInOrder keys.now }
+        ensures had { IfOk result (λ had. had ≡ list_any (is_waiting self.old) keys.now) }
         ensures keys { OnOk result ((k : AKey) → is_waiting self.new k ≡ (has keys.now k || is_waiting self.old k)) }
         ensures any { self.new.is_any ≡ self.old.is_any }
     {
+        let mut had = false;
         for key in keys {
-            self.note(key)?;
+            had |= self.add_key(key)?;
         }
-        Ok(())
+        Ok(had)
     }
 
     /// One more place waits, which is whole-table.
@@ -107,16 +88,17 @@ impl Waiting {
         self.is_whole = true;
     }
 
-    /// One more place waits, with these keys.
-    pub(crate) fn add(&mut self, keys: &[Key]) -> Result<(), NoMemory>
-        ensures { OnOk result ((k : List AKey) → meet_waiting self.new k ≡ (meet_waiting self.old k || meets keys.now k)) }
+    /// One more place waits, with these keys in order: whether they meet those of a place that waits already. A key
+    /// takes one insertion.
+    pub(crate) fn add(&mut self, keys: &[Key]) -> Result<bool, NoMemory>
+        requires { IsInOrder keys.now }
+        ensures met { IfOk result (λ met. met ≡ meet_waiting self.old keys.now) }
+        ensures more { OnOk result ((k : List AKey) → meet_waiting self.new k ≡ (meet_waiting self.old k || meets keys.now k)) }
     {
+        let was_any = self.is_any;
+        let was_whole = self.is_whole;
         self.is_any = true;
-        if has_key(keys, &Key::Whole) {
-            self.is_whole = true;
-            return Ok(());
-        }
-        self.note_each(keys)?;
-        Ok(())
+        let had = self.add_keys(keys)?;
+        Ok(had | was_whole | (was_any & self.is_whole))
     }
 }

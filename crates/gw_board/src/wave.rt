@@ -1,16 +1,17 @@
 //! The waves of a burst: the jobs of one are opened together, and closed together.
 
-ghost use Rattle.std.specs.Prelude.{◌≡◌, ◌+◌, [], length, is_ok, IfOk, IsOk, IsSomeAnd, Some, Ok, OnErr, OnOk};
+ghost use Rattle.std.specs.Prelude.{◌≡◌, ◌+◌, false, length, map, is_ok, IfOk, IsOk, IsSomeAnd, Some, Ok, OnErr, OnOk, slice_get};
 ghost use Rattle.std.specs.List.{list_all};
-ghost use Rattle.gw_board.specs.Boards.{core_of, AllClosed, unclosed};
-ghost use Rattle.gw_board.specs.OpenJobs.{AreOpen, AreAnswers, IsSameBurst};
+ghost use Rattle.gw_board.specs.Alone.{IsFirstUnclosed};
+ghost use Rattle.gw_board.specs.Boards.{core_of, unchanged, unclosed, with_result};
+ghost use Rattle.gw_board.specs.OpenJobs.{after_each, AreOpen, AreAnswers, IsSameBurst};
 ghost use Rattle.gw_board.specs.Planned.{IsPlan, MayOpenInTurn};
 ghost use Rattle.gw_board.specs.Results.{NothingIsOpen};
 
 use crate::board::Board;
 use crate::job::{Done, Job};
+use crate::links::links_of;
 use crate::planned::Planned;
-use crate::seat::tell_names;
 use gw_base::{Items, NoMemory};
 use gw_table::Part;
 use std::alloc::Global;
@@ -36,44 +37,56 @@ fn result_in(answer: Option<Answer>) -> (Part, Items<u8>)
 }
 
 impl<'b, 'h, 'a> Board<'b, 'h, 'a> {
-    /// Gathers the names and the links of all places, if that was not done yet.
-    fn tell_names(&mut self, alloc: Global) -> Result<(), NoMemory>
+    /// Gathers the links of all places, if that was not done yet.
+    fn link(&mut self, alloc: Global) -> Result<(), NoMemory>
         ensures { self.new ≡ self.old }
     {
-        if !self.is_named {
-            tell_names(alloc, &mut self.seats)?;
-            self.is_named = true;
+        if self.links.is_empty() {
+            self.links = links_of(alloc, &self.board_entries)?;
         }
         Ok(())
     }
 
     /// The next wave, as of `plan_wave`, where places that wait for earlier ones by name are not looked at in the
-    /// tables.
-    fn plan_by_names(&mut self, alloc: Global) -> Result<Vec<Planned>, NoMemory>
+    /// tables. The caller knows that nothing is open, and which place is the first that is not closed: the wave begins
+    /// with it, so that one by itself may be executed by `carry_alone`. What the requests name by themselves is
+    /// gathered before the first wave. A place that waits so takes a step or two, and a closed one before the first
+    /// takes none.
+    ///
+    /// # Errors
+    ///
+    /// Out of memory.
+    pub fn plan_next(&mut self, alloc: Global, first: usize) -> Result<Vec<Planned>, NoMemory>
+        requires none { NothingIsOpen (core_of self.old) }
+        requires first { IsFirstUnclosed self.old.places first }
         ensures plan { IfOk result (λ planned. IsPlan self.old planned.items) }
-        ensures in_turn { IfOk result (λ planned. NothingIsOpen (core_of self.old) → MayOpenInTurn self.old planned.items) }
+        ensures in_turn { IfOk result (λ planned. MayOpenInTurn self.old planned.items) }
+        ensures begins { IfOk result (λ planned. slice_get (map (λ p. p.place) planned.items) 0 ≡ Some first) }
         ensures stays { self.new ≡ self.old }
     {
-        self.tell_names(alloc)?;
-        self.plan_wave(alloc)
+        self.link(alloc)?;
+        self.plan_from(alloc, first)
     }
 
-    /// Plans the next wave, and opens its places: the jobs are all that is open then. There are none only where every
-    /// place is closed. The caller knows that nothing is open. What the requests name by themselves is gathered
-    /// before the first wave.
+    /// Opens the places of a wave, one after another: the jobs, one for each in this order, are all that is open then.
+    /// The caller knows that nothing is open, and that the places may be opened so, as those of `plan_next` may.
     ///
     /// # Errors
     ///
     /// Out of memory. Nothing is open then.
-    pub fn open_wave(&mut self, alloc: Global) -> Result<Vec<Job<'b, 'h, 'a>>, NoMemory>
-        requires { NothingIsOpen (core_of self.old) }
+    pub fn open_wave(
+        &mut self,
+        alloc: Global,
+        wave: Vec<Planned>,
+    ) -> Result<Vec<Job<'b, 'h, 'a>>, NoMemory>
+        requires none { NothingIsOpen (core_of self.old) }
+        requires in_turn { MayOpenInTurn self.old wave.items }
+        ensures wave { IfOk result (λ jobs. map (λ j. j.place) jobs.items ≡ map (λ p. p.place) wave.items) }
         ensures open { IfOk result (λ jobs. AreOpen self.new jobs.items) }
-        ensures all { IfOk result (λ jobs. jobs.items ≡ [] → AllClosed self.new.places) }
         ensures none { OnErr result (NothingIsOpen (core_of self.new)) }
         ensures left { unclosed self.new.places ≡ unclosed self.old.places }
         ensures same { IsSameBurst self.old self.new }
     {
-        let wave = self.plan_by_names(alloc)?;
         let mut jobs = Vec::with_capacity(alloc, wave.len())?;
         for planned in wave {
             let Ok(job) = self.open_planned(alloc, planned) else {
@@ -91,6 +104,7 @@ impl<'b, 'h, 'a> Board<'b, 'h, 'a> {
     /// memory.
     pub fn close_unchanged(&mut self, mut jobs: Vec<Job<'b, 'h, 'a>>)
         requires { AreOpen self.old jobs.items }
+        ensures board { self.new ≡ after_each unchanged self.old jobs.entry.items }
         ensures none { NothingIsOpen (core_of self.new) }
         ensures left { unclosed self.new.places ≡ unclosed self.old.places }
         ensures same { IsSameBurst self.old self.new }
@@ -114,6 +128,9 @@ impl<'b, 'h, 'a> Board<'b, 'h, 'a> {
     ) -> Result<(), NoMemory>
         requires open { AreOpen self.old jobs.items }
         requires answers { AreAnswers jobs.items answers.items }
+        ensures ok { OnOk result (self.new ≡ after_each with_result self.old jobs.entry.items) }
+        ensures err { OnErr result (self.new ≡ after_each unchanged self.old jobs.entry.items) }
+        ensures refused { OnErr result (list_all is_ok answers.items ≡ false) }
         ensures none { NothingIsOpen (core_of self.new) }
         ensures left { OnOk result (unclosed self.new.places + length jobs.entry.items ≡ unclosed self.old.places) }
         ensures same { IsSameBurst self.old self.new }

@@ -19,7 +19,7 @@ use Rattle.gw_term.specs.Places.{numbered, at_number, rising}
 use Rattle.gw_term.specs.Record.{placed}
 use Rattle.gw_term.specs.declared.record.Stream.{Stream}
 use Rattle.gw_term.specs.declared.record.Termination.{Termination}
-use Rattle.gw_refusal.specs.Asked.{service_asked}
+use Rattle.gw_refusal.specs.Requested.{requested_service}
 use Rattle.gw_cmd.specs.declared.change.Change.TheVariants.{Becomes}
 use Rattle.gw_cmd.specs.Effects.{becomes, decided_in_null, decided_in, is_full, unless, after_change, refusal_elsewhere, merging, merging_to, merged_in, modified, done, on_record, empty_unless, after_service}
 use Rattle.gw_cmd.proofs.Lawful.{elsewhere_none}
@@ -84,13 +84,13 @@ modify_alone rules (Some n) c t r m verb none found =
 -- ---- a ServiceChange
 
 service_by : (t : List ℕ) (m : Maps) (r : Termination) (descriptors : List Descriptor) (refused : Option Code) → term m t ≡ Some r
-    → done t m (unless refused (record { change = Becomes (after_change descriptors r); parts = [] })) ≡ after_service refused (unwrap_or (service_asked descriptors) r.service) t m
+    → done t m (unless refused (record { change = Becomes (after_change descriptors r); parts = [] })) ≡ after_service refused (unwrap_or (requested_service descriptors) r.service) t m
 service_by t m r descriptors (Some code) found = refl
 service_by t m r descriptors None found =
-    ap (λ (o : Option Termination). let x : Outcome (Result (List ReplyPart) Code) = record { maps = put_service (unwrap_or (service_asked descriptors) r.service) t m o; answer = Ok [] } in x) (sym found)
+    ap (λ (o : Option Termination). let x : Outcome (Result (List ReplyPart) Code) = record { maps = put_service (unwrap_or (requested_service descriptors) r.service) t m o; answer = Ok [] } in x) (sym found)
 
 pub service_done : (rules : Rules) (place : Option CtxNum) (c : Command) (t : List ℕ) (r : Termination) (m : Maps) → c.verb ≡ ServiceChange → term m t ≡ Some r
-    → on_record rules place c t r m ≡ after_service (refusal_elsewhere place r.place) (unwrap_or (service_asked c.descriptors) r.service) t m
+    → on_record rules place c t r m ≡ after_service (refusal_elsewhere place r.place) (unwrap_or (requested_service c.descriptors) r.service) t m
 unfolding on_record
 service_done rules None c t r m verb found =
     ap (λ (v : Verb). done t m (decided_in_null rules v c.descriptors r)) verb ∙ service_by t m r c.descriptors (refusal_elsewhere None r.place) found

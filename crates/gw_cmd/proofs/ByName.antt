@@ -9,7 +9,7 @@ use Rattle.gw_reply.specs.declared.reply.CommandReply.{CommandReply}
 use Rattle.gw_table.specs.declared.attempts.Attempts.{Attempts}
 use Rattle.gw_table.specs.Maps.{Maps, Outcome}
 use Rattle.gw_refusal.specs.declared.at.At.{At}
-use Rattle.gw_refusal.specs.Asked.{is_wildcard}
+use Rattle.gw_refusal.specs.Requested.{is_wildcard}
 use Rattle.gw_refusal.specs.Places.{place_at}
 use Rattle.gw_refusal.specs.Targets.{targets_of}
 use Rattle.gw_cmd.specs.declared.outcome.CmdOutcome.{CmdOutcome}

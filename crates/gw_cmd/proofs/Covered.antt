@@ -22,7 +22,7 @@ use Rattle.gw_table.specs.Members.{put_service}
 use Rattle.gw_table.specs.Parts.{PartKeys, holds, Holds}
 use Rattle.gw_table.specs.Reserved.{slot_name}
 use Rattle.gw_refusal.specs.declared.at.At.{At}
-use Rattle.gw_refusal.specs.Asked.{service_asked}
+use Rattle.gw_refusal.specs.Requested.{requested_service}
 use Rattle.gw_refusal.specs.Forms.{refusal_by_form}
 use Rattle.gw_refusal.specs.Places.{place_at}
 use Rattle.gw_refusal.specs.Targets.{targets}
@@ -104,7 +104,7 @@ module _ {P : Maps → Type 0} (rules : Rules) (keys : PartKeys) (N : CtxNum →
   on_all (Some s) m h p = on_services s (names m) m h p
 
   on_gateway : (v : Verb) (ds : List Descriptor) (m : Maps) → (v ≡ ServiceChange → (t : List ℕ) → is_in t (names m) ≡ true → holds keys (Term t) ≡ true) → P m → P (root_maps v ds m)
-  on_gateway ServiceChange ds m h p = on_all (service_asked ds) m (h refl) p
+  on_gateway ServiceChange ds m h p = on_all (requested_service ds) m (h refl) p
   on_gateway Add ds m h p = p
   on_gateway Modify ds m h p = p
   on_gateway Move ds m h p = p

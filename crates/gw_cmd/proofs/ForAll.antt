@@ -11,7 +11,7 @@ use Rattle.gw_msg.specs.declared.message.Command.{Command}
 use Rattle.gw_table.specs.Maps.{Maps, term, ctx, members_of, place_of}
 use Rattle.gw_refusal.specs.declared.at.At.{At}
 use Rattle.gw_refusal.specs.declared.at.At.TheVariants.{Null, Live, Unmade, Each}
-use Rattle.gw_refusal.specs.Asked.{is_add}
+use Rattle.gw_refusal.specs.Requested.{is_add}
 use Rattle.gw_cmd.specs.Keys.{command_keys, is_for_all, every_key, keys_if, action_keys, place_key, slot_key, member_keys, term_keys}
 
 or_none : (b : Bool) → (b || false) ≡ b

@@ -50,11 +50,11 @@ use Rattle.gw_cmd.specs.declared.change.Change.{Change}
 use Rattle.gw_cmd.specs.declared.change.Change.TheVariants.{Stays, Becomes, Joins, Crosses, Leaves}
 use Rattle.gw_cmd.specs.declared.change.Decided.{Decided}
 use Rattle.gw_cmd.specs.declared.outcome.CmdOutcome.{CmdOutcome}
-use Rattle.gw_refusal.specs.Asked.{is_wildcard, matches, audited, asks_media, is_some_list, service_asked}
+use Rattle.gw_refusal.specs.Requested.{is_wildcard, matches, audited, requests_media, is_some_list, requested_service}
 use Rattle.gw_table.specs.Members.{put_service}
 use Rattle.gw_cmd.specs.Commands.{has_error, error_of, error_in, first_error, written, on_targets, on_names, new_reply, on_new, all_serviced, serviced_if, bare_if, bare_answer, root_parts, root_maps, on_root, refused, executed, unless_refused, command}
 use Rattle.gw_cmd.specs.Effects.{Merged, filled_part, parts_of, merging_to, merging, refusal_to_add, refusal_to_move, refusal_elsewhere, joins, crosses, becomes, unless, what_remains, after_change, decided_in, decided_in_null, is_full, decided, done, on_record, on_found, on_name}
-use Rattle.gw_cmd.specs.KeptForms.{AreKept, IsAsked, IsSlot, KeepsForms}
+use Rattle.gw_cmd.specs.KeptForms.{AreKept, IsRequested, IsSlot, KeepsForms}
 use Rattle.gw_table.specs.Members.{with_member, without_member, unless_none, unless_empty}
 use Rattle.gw_cmd.specs.Changes.{changed}
 use Rattle.gw_refusal.specs.Places.{place_at}
@@ -179,7 +179,7 @@ IsKeptMerge (Ok m) = IsKeptRecord m.record_after × All HasKeptReply m.parts
 IsKeptMerge (Err code) = Unit {0}
 
 filled_part_kept : (ds : List Descriptor) (filled : List FilledStream) → All IsKeptFilled filled → All HasKeptReply (filled_part ds filled)
-filled_part_kept ds filled h = by (asks_media ds || not (is_some_list filled))
+filled_part_kept ds filled h = by (requests_media ds || not (is_some_list filled))
   where
     by : (b : Bool) → All HasKeptReply (cond b [] (part.Filled filled ∷ []))
     by true = All-nil HasKeptReply
@@ -237,14 +237,14 @@ module _ (rules : Rules) (address : IsAddress rules.media) where
   in_kept Subtract ds full n r good k = unless_kept (refusal_elsewhere (Some n) r.place) (record { change = Leaves n (what_remains r); parts = audit_parts (audited ds) r }) (remains_kept r, audits_kept (audited ds) r k)
   in_kept Modify ds full n r good k = becomes_kept (merging rules ds r (Some n) (refusal_elsewhere (Some n) r.place)) (merging_kept rules address ds r (Some n) (refusal_elsewhere (Some n) r.place) good k)
   in_kept AuditValue ds full n r good k = unless_kept (refusal_elsewhere (Some n) r.place) (record { change = Stays; parts = audit_parts (audited ds) r }) (tt, audits_kept (audited ds) r k)
-  in_kept ServiceChange ds full n r good k = unless_kept (refusal_elsewhere (Some n) r.place) (record { change = Becomes (after_change ds r); parts = [] }) (serviced_kept r (unwrap_or (service_asked ds) r.service) k, All-nil HasKeptReply)
+  in_kept ServiceChange ds full n r good k = unless_kept (refusal_elsewhere (Some n) r.place) (record { change = Becomes (after_change ds r); parts = [] }) (serviced_kept r (unwrap_or (requested_service ds) r.service) k, All-nil HasKeptReply)
   in_kept AuditCapability ds full n r good k = tt
   in_kept Notify ds full n r good k = tt
 
   null_kept : (v : Verb) (ds : List Descriptor) (r : Termination) → All HasKeptTexts ds → IsKeptRecord r → IsKeptDecision (decided_in_null rules v ds r)
   null_kept Modify ds r good k = becomes_kept (merging rules ds r None (refusal_elsewhere None r.place)) (merging_kept rules address ds r None (refusal_elsewhere None r.place) good k)
   null_kept AuditValue ds r good k = unless_kept (refusal_elsewhere None r.place) (record { change = Stays; parts = audit_parts (audited ds) r }) (tt, audits_kept (audited ds) r k)
-  null_kept ServiceChange ds r good k = unless_kept (refusal_elsewhere None r.place) (record { change = Becomes (after_change ds r); parts = [] }) (serviced_kept r (unwrap_or (service_asked ds) r.service) k, All-nil HasKeptReply)
+  null_kept ServiceChange ds r good k = unless_kept (refusal_elsewhere None r.place) (record { change = Becomes (after_change ds r); parts = [] }) (serviced_kept r (unwrap_or (requested_service ds) r.service) k, All-nil HasKeptReply)
   null_kept Add ds r good k = tt
   null_kept Move ds r good k = tt
   null_kept Subtract ds r good k = tt
@@ -316,7 +316,7 @@ serviced_if_kept None m k = k
 serviced_if_kept (Some s) m k = all_serviced_kept s (names m) m k
 
 root_kept : (v : Verb) (ds : List Descriptor) (m : Maps) → AreKept m → AreKept (root_maps v ds m)
-root_kept ServiceChange ds m k = serviced_if_kept (service_asked ds) m k
+root_kept ServiceChange ds m k = serviced_if_kept (requested_service ds) m k
 root_kept Add ds m k = k
 root_kept Modify ds m k = k
 root_kept Move ds m k = k
@@ -364,7 +364,7 @@ refused_kept : (at : At) (c : Command) (code : Code) (m : Maps) → HasForm c.te
 refused_kept at c code m form k = record { maps = k; replies = one_kept c c.term (Err code) form tt }
 
 module _ (rules : Rules) (address : IsAddress rules.media) where
-  on_new_kept : (at : At) (c : Command) (slot : Option ℕ) (m : Maps) → IsSlot slot → IsAsked c → AreKept m → KeepsForms (on_new rules at c slot m)
+  on_new_kept : (at : At) (c : Command) (slot : Option ℕ) (m : Maps) → IsSlot slot → IsRequested c → AreKept m → KeepsForms (on_new rules at c slot m)
   on_new_kept at c None m small good k = refused_kept at c _ m good.term k
   on_new_kept at c (Some slot) m small good k =
       let o = on_record rules (place_at at) c (slot_name slot) (ephemeral slot) m in
@@ -372,7 +372,7 @@ module _ (rules : Rules) (address : IsAddress rules.media) where
       let h = record_kept rules address (place_at at) c (slot_name slot) (ephemeral slot) m named good.descriptors (nothing_kept None _ (Some slot)) k in
       record { maps = h.0; replies = All-cons IsKeptCommand (new_reply c slot o.answer) [] (new_kept c slot o.answer named h.1) (All-nil IsKeptCommand) }
 
-  on_names_kept : (at : At) (c : Command) (m : Maps) → IsAsked c → AreKept m → KeepsForms (on_names rules at c m)
+  on_names_kept : (at : At) (c : Command) (m : Maps) → IsRequested c → AreKept m → KeepsForms (on_names rules at c m)
   on_names_kept at c m good k =
       let h = targets_kept rules address at c (targets at c m) m (all_texts at c m c.term good.term k) good.descriptors k in
       record { maps = h.0; replies = written_kept c (on_targets rules at c (targets at c m) m).answer.answers good.term h.1 }
@@ -380,7 +380,7 @@ module _ (rules : Rules) (address : IsAddress rules.media) where
   on_root_kept : (at : At) (c : Command) (m : Maps) → AreKept m → KeepsForms (on_root at c m)
   on_root_kept at c m k = record { maps = root_kept c.verb c.descriptors m k; replies = one_kept c Root (Ok (root_parts c)) tt (bares_kept (audited c.descriptors)) }
 
-  executed_kept : (at : At) (slot : Option ℕ) (c : Command) (m : Maps) (r : TermRef) → IsSlot slot → IsAsked c → AreKept m → KeepsForms (executed rules at slot c m r)
+  executed_kept : (at : At) (slot : Option ℕ) (c : Command) (m : Maps) (r : TermRef) → IsSlot slot → IsRequested c → AreKept m → KeepsForms (executed rules at slot c m r)
   executed_kept at slot c m Root small good k = on_root_kept at c m k
   executed_kept at slot c m Choose small good k = on_new_kept at c slot m small good k
   executed_kept at slot c m (Name t) small good k = on_names_kept at c m good k
@@ -392,6 +392,6 @@ module _ (rules : Rules) (address : IsAddress rules.media) where
   unless_refused_kept (Some code) at c m x form k h = refused_kept at c code m form k
   unless_refused_kept None at c m x form k h = h
 
-  pub command_kept : (at : At) (slot : Option ℕ) (c : Command) (m : Maps) → IsSlot slot → IsAsked c → AreKept m → KeepsForms (command rules at slot c m)
+  pub command_kept : (at : At) (slot : Option ℕ) (c : Command) (m : Maps) → IsSlot slot → IsRequested c → AreKept m → KeepsForms (command rules at slot c m)
   unfolding command
   command_kept at slot c m small good k = unless_refused_kept (refusal at slot c m) at c m (executed rules at slot c m c.term) good.term k (executed_kept at slot c m c.term small good k)

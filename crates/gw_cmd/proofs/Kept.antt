@@ -20,7 +20,7 @@ use Rattle.gw_cmd.specs.declared.change.Change.{Change}
 use Rattle.gw_cmd.specs.declared.change.Change.TheVariants.{Becomes}
 use Rattle.gw_cmd.specs.declared.change.Decided.{Decided}
 use Rattle.gw_cmd.specs.declared.outcome.CmdOutcome.{CmdOutcome}
-use Rattle.gw_refusal.specs.Asked.{service_asked}
+use Rattle.gw_refusal.specs.Requested.{requested_service}
 use Rattle.gw_table.specs.Members.{put_service}
 use Rattle.gw_cmd.specs.Commands.{on_target, on_names, on_new, all_serviced, serviced_if, root_maps, executed, unless_refused, command}
 use Rattle.gw_cmd.specs.Effects.{decided, done, on_record, on_found, on_name}
@@ -74,7 +74,7 @@ module _ {P : Maps → Type 0} (rules : Rules) (passes : List ℕ → Bool) (mak
   kept_if (Some s) m h p = kept_all s (names m) m h p
 
   kept_root : (v : Verb) (ds : List Descriptor) (m : Maps) → ((t : List ℕ) → passes t ≡ true) → P m → P (root_maps v ds m)
-  kept_root ServiceChange ds m h p = kept_if (service_asked ds) m h p
+  kept_root ServiceChange ds m h p = kept_if (requested_service ds) m h p
   kept_root Add ds m h p = p
   kept_root Modify ds m h p = p
   kept_root Move ds m h p = p

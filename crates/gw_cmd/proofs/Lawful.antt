@@ -21,7 +21,7 @@ use Rattle.gw_table.specs.Maps.{Maps}
 use Rattle.gw_cmd.specs.declared.change.Change.{Change}
 use Rattle.gw_cmd.specs.declared.change.Change.TheVariants.{Stays, Becomes, Joins, Crosses, Leaves}
 use Rattle.gw_cmd.specs.declared.change.Decided.{Decided}
-use Rattle.gw_refusal.specs.Asked.{is_move}
+use Rattle.gw_refusal.specs.Requested.{is_move}
 use Rattle.gw_cmd.specs.Effects.{Merged, merged_in, merging_to, merging, refusal_to_add, refusal_to_move, refusal_elsewhere, joins, added, crosses, moved, becomes, modified, unless, what_remains, after_change, service_changed, decided_in, decided_in_null, is_full, decided}
 use Rattle.gw_refusal.specs.Places.{same_place}
 

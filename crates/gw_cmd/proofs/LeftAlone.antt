@@ -31,7 +31,7 @@ use Rattle.gw_table.specs.WellFormed.{IsSound}
 use Rattle.gw_table.proofs.Folding.{ended, in_order-more, in_order-none}
 use Rattle.gw_refusal.specs.declared.at.At.{At}
 use Rattle.gw_refusal.specs.declared.at.At.TheVariants.{Null, Live, Unmade, Each}
-use Rattle.gw_refusal.specs.Asked.{is_add, is_wildcard, matches, audited, is_some_list}
+use Rattle.gw_refusal.specs.Requested.{is_add, is_wildcard, matches, audited, is_some_list}
 use Rattle.gw_refusal.specs.Places.{place_at, same_place, is_each}
 use Rattle.gw_refusal.specs.Targets.{those_in, source, matched, targets_of, targets}
 use Rattle.gw_cmd.specs.declared.change.Change.TheVariants.{Stays}

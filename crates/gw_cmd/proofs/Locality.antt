@@ -33,7 +33,7 @@ use Rattle.gw_table.proofs.Frames.{within-then, Lists}
 use Rattle.gw_table.proofs.Localities.{keeps_to, change_places, part_is_all}
 use Rattle.gw_refusal.specs.declared.at.At.{At}
 use Rattle.gw_refusal.specs.declared.at.At.TheVariants.{Null, Live, Unmade, Each}
-use Rattle.gw_refusal.specs.Asked.{is_add, is_root, is_service_change, is_wildcard, matches, service_asked}
+use Rattle.gw_refusal.specs.Requested.{is_add, is_root, is_service_change, is_wildcard, matches, requested_service}
 use Rattle.gw_cmd.specs.Commands as commands
 use Rattle.gw_cmd.specs.Keys.{every_key, is_for_all, keys_if, action_keys, place_key, slot_key, member_keys, term_keys, command_keys}
 use Rattle.gw_refusal.specs.Places.{place_at, is_null, is_each}
@@ -155,7 +155,7 @@ module _ (rules : Rules) (at : At) (slot : Option ℕ) (c : Command) (m : Maps) 
 
   do_root : c.term ≡ Root → (v : Verb) → c.verb ≡ v → Within keys (of_root v c.descriptors) m
   do_root e ServiceChange f =
-      do_services (or_right (is_each at || (is_wildcard c.term && (is_null at || is_add c.verb))) (is_root c.term && is_service_change c.verb) (ap (λ (r : TermRef). is_root r && is_service_change c.verb) e ∙ ap (λ (v : Verb). is_service_change v) f)) (service_asked c.descriptors)
+      do_services (or_right (is_each at || (is_wildcard c.term && (is_null at || is_add c.verb))) (is_root c.term && is_service_change c.verb) (ap (λ (r : TermRef). is_root r && is_service_change c.verb) e ∙ ap (λ (v : Verb). is_service_change v) f)) (requested_service c.descriptors)
   do_root e Add f = tt
   do_root e Modify f = tt
   do_root e Move f = tt

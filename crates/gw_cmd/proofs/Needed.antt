@@ -70,8 +70,8 @@ module _ (rules : Rules) (n : CtxNum) (t : List ℕ) (ds : List Descriptor) (m :
 -- ---- a Move, without the key of the context that its termination is in
 
 module _ (rules : Rules) (n : CtxNum) (t : List ℕ) (ds : List Descriptor) (m : Maps) where
-  asked : Command
-  asked = named Move t ds
+  requested : Command
+  requested = named Move t ds
 
   -- one that is not refused leaves the termination in the action's context
   done_place : (r : Termination) (x : Result Decided Code) → ((d : Decided) → x ≡ Ok d → (p : CtxNum) × (new : Termination) × (d.change ≡ Crosses p n new) × (new.place ≡ Some n)) → (is_err (done t m x).answer || false) ≡ false → place_of (term (done t m x).maps t) ≡ Some n

@@ -31,7 +31,7 @@ use Rattle.gw_cmd.specs.declared.change.Change.{Change}
 use Rattle.gw_cmd.specs.declared.change.Change.TheVariants.{Stays, Becomes, Joins, Crosses, Leaves}
 use Rattle.gw_cmd.specs.declared.change.Decided.{Decided}
 use Rattle.gw_cmd.specs.declared.outcome.CmdOutcome.{CmdOutcome}
-use Rattle.gw_refusal.specs.Asked.{matches, is_some_list, service_asked}
+use Rattle.gw_refusal.specs.Requested.{matches, is_some_list, requested_service}
 use Rattle.gw_cmd.specs.Commands as commands
 use Rattle.gw_cmd.specs.Effects.{decided_in, decided_in_null, done, on_record, on_found, on_name}
 use Rattle.gw_table.specs.Members.{put_service, unless_empty}
@@ -224,7 +224,7 @@ of_serviced_if None = Done tt
 of_serviced_if (Some s) = ReadAll (λ m. of_services s (names m))
 
 abbrev pub of_root : Verb → List Descriptor → Accesses (Unit {0})
-of_root ServiceChange ds = of_serviced_if (service_asked ds)
+of_root ServiceChange ds = of_serviced_if (requested_service ds)
 of_root _ ds = Done tt
 
 effect-of_serviced_if : (o : Option Service) (m : Maps) → effect (of_serviced_if o) m ≡ giving (commands.serviced_if o m) tt
@@ -232,7 +232,7 @@ effect-of_serviced_if None m = refl
 effect-of_serviced_if (Some s) m = effect-of_services s (names m) m
 
 effect-of_root : (v : Verb) (ds : List Descriptor) (m : Maps) → effect (of_root v ds) m ≡ giving (commands.root_maps v ds m) tt
-effect-of_root ServiceChange ds m = effect-of_serviced_if (service_asked ds) m
+effect-of_root ServiceChange ds m = effect-of_serviced_if (requested_service ds) m
 effect-of_root Add ds m = refl
 effect-of_root Modify ds m = refl
 effect-of_root Move ds m = refl

@@ -1,4 +1,4 @@
--- A command that is not refused, on a part that has its keys, is ready to be executed out.
+-- A command that is not refused, on a part that has its keys, is ready to be executed.
 use Rattle.std.proofs.Common.{nat_eq, ◌≡◌, ℕ, Bool, true, false, List, [], ◌∷◌, ◌++◌, map, Option, None, Some, is_some, is_none, bytes_eq, refl, sym, ap, ◌∙◌}
 use Rattle.std.specs.Prelude.{◌≢◌, ◌||◌, ◌&&◌, not, if◌then◌else◌}
 use Rattle.std.specs.Ordering.{nat_cmp}
@@ -27,7 +27,7 @@ use Rattle.gw_table.specs.Parts.{PartKeys, holds, Holds, HoldsPlace}
 use Rattle.gw_table.specs.Reserved.{slot_name}
 use Rattle.gw_refusal.specs.declared.at.At.{At}
 use Rattle.gw_refusal.specs.declared.at.At.TheVariants.{Null, Live, Unmade, Each}
-use Rattle.gw_refusal.specs.Asked.{is_add, is_move, is_modify, is_subtract, is_service_change, brings, is_unsupported, is_root, is_choose, is_other_term, is_wildcard, matches, audited, is_some_list, method, delay, is_other_method, is_other_delay}
+use Rattle.gw_refusal.specs.Requested.{is_add, is_move, is_modify, is_subtract, is_service_change, brings, is_unsupported, is_root, is_choose, is_other_term, is_wildcard, matches, audited, is_some_list, method, delay, is_other_method, is_other_delay}
 use Rattle.gw_cmd.specs.Keys.{every_key, is_for_all, keys_if, action_keys, place_key, slot_key, member_keys, term_keys, command_keys}
 use Rattle.gw_refusal.specs.Places.{place_at, is_null, is_unmade, is_each}
 use Rattle.gw_refusal.specs.Forms.{is_left_out, is_misplaced, refusal_by_form}

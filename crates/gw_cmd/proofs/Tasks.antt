@@ -20,7 +20,7 @@ use Rattle.gw_table.specs.Maps.{Maps, Outcome, term}
 use Rattle.gw_table.specs.Members.{put_service}
 use Rattle.gw_table.specs.Reserved.{slot_name}
 use Rattle.gw_refusal.specs.declared.at.At.{At}
-use Rattle.gw_refusal.specs.Asked.{service_asked}
+use Rattle.gw_refusal.specs.Requested.{requested_service}
 use Rattle.gw_refusal.specs.Places.{place_at}
 use Rattle.gw_cmd.specs.declared.change.Change.{Change}
 use Rattle.gw_cmd.specs.declared.change.Decided.{Decided}
@@ -46,7 +46,7 @@ pub record IsTask (at : At) (c : Command) (t : Task) : Type 0 where
   pub does : Does t c
 
 abbrev Fits : Verb → Option CtxNum → Option Service → Task → Type 0
-Fits v p s t = (v ≡ task_verb t) × (p ≡ task_place t) × ((ds : List Descriptor) → s ≡ service_asked ds → IsServedBy ds t)
+Fits v p s t = (v ≡ task_verb t) × (p ≡ task_place t) × ((ds : List Descriptor) → s ≡ requested_service ds → IsServedBy ds t)
 
 fits : (v : Verb) (p : Option CtxNum) (s : Option Service) (t : Task) → task_of v p s ≡ Some t → Fits v p s t
 fits word.Add (Some n) s t e = subst (Fits word.Add (Some n) s) (let same : task.Act (Add n) ≡ t = cc in same) (refl, refl, λ ds h. tt)
@@ -62,7 +62,7 @@ fits word.AuditCapability p s t e = absurd cc
 fits word.Notify p s t e = absurd cc
 
 pub is_task : (at : At) (c : Command) (t : Task) → IsAllowed at c t → IsTask at c t
-is_task at c t h = let f = fits c.verb (place_at at) (service_asked c.descriptors) t h.1 in record { place = f.1; does = record { verb = f.0; served = f.2 c.descriptors refl } }
+is_task at c t h = let f = fits c.verb (place_at at) (requested_service c.descriptors) t h.1 in record { place = f.1; does = record { verb = f.0; served = f.2 c.descriptors refl } }
 
 pub decided_is : (rules : Rules) (a : Act) (c : Command) (m : Maps) (r : Termination) → Does (task.Act a) c → decided rules (act_place a) c m r ≡ decided_by rules c.descriptors a m r
 decided_is rules (Add n) c m r d = ap (λ (v : Verb). decided_in rules v c.descriptors (is_full rules n m) n r) d.verb

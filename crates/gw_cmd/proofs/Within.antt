@@ -26,7 +26,7 @@ use Rattle.gw_refusal.specs.declared.at.At.{At}
 use Rattle.gw_cmd.specs.declared.change.Change.{Change}
 use Rattle.gw_cmd.specs.declared.change.Change.TheVariants.{Stays, Becomes, Joins, Crosses, Leaves}
 use Rattle.gw_cmd.specs.declared.change.Decided.{Decided}
-use Rattle.gw_refusal.specs.Asked.{is_move}
+use Rattle.gw_refusal.specs.Requested.{is_move}
 use Rattle.gw_cmd.specs.Commands as commands
 use Rattle.gw_cmd.specs.Effects.{decided, decided_in_null}
 use Rattle.gw_table.specs.Members.{unless_empty}

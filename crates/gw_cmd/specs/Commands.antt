@@ -24,7 +24,7 @@ use Rattle.gw_table.specs.Reserved.{slot_name}
 use Rattle.gw_table.specs.Members.{put_service}
 use Rattle.gw_refusal.specs.declared.at.At.{At}
 use Rattle.gw_cmd.specs.declared.outcome.CmdOutcome.{CmdOutcome}
-use Rattle.gw_refusal.specs.Asked.{is_wildcard, audited, service_asked}
+use Rattle.gw_refusal.specs.Requested.{is_wildcard, audited, requested_service}
 use Rattle.gw_cmd.specs.Effects.{on_record, on_name}
 use Rattle.gw_refusal.specs.Places.{place_at, is_unmade}
 use Rattle.gw_cmd.specs.Refusals.{refusal, refusal_by_tables}
@@ -133,7 +133,7 @@ root_parts c = flat_map bare_answer (audited c.descriptors)
 
 -- a ServiceChange is for every termination
 abbrev pub root_maps : Verb → List Descriptor → Maps → Maps
-root_maps ServiceChange descriptors m = serviced_if (service_asked descriptors) m
+root_maps ServiceChange descriptors m = serviced_if (requested_service descriptors) m
 root_maps _ descriptors m = m
 
 abbrev pub on_root : At → Command → Maps → Outcome CmdOutcome

@@ -21,7 +21,7 @@ use Rattle.gw_term.specs.Audit.{audit_parts}
 pub use Rattle.gw_table.specs.Gone.{what_remains}
 use Rattle.gw_table.specs.Maps.{Maps, Outcome, term, ctx, members_of}
 use Rattle.gw_table.specs.Members.{put_service}
-use Rattle.gw_refusal.specs.Asked.{audited, asks_media, is_some_list, service_asked}
+use Rattle.gw_refusal.specs.Requested.{audited, requests_media, is_some_list, requested_service}
 use Rattle.gw_cmd.specs.declared.change.Change.TheVariants.{Stays, Becomes, Joins, Crosses, Leaves}
 use Rattle.gw_cmd.specs.declared.change.Decided.{Decided}
 use Rattle.gw_cmd.specs.Changes.{changed}
@@ -31,7 +31,7 @@ use Rattle.gw_refusal.specs.Places.{same_place}
 
 -- the Locals that were filled, unless Media is audited
 abbrev pub filled_part : List Descriptor → List FilledStream → List ReplyPart
-filled_part descriptors filled = if asks_media descriptors || not (is_some_list filled) then [] else part.Filled filled ∷ []
+filled_part descriptors filled = if requests_media descriptors || not (is_some_list filled) then [] else part.Filled filled ∷ []
 
 -- what was filled, and what is audited of the record after it
 abbrev pub parts_of : List Descriptor → List FilledStream → Termination → List ReplyPart
@@ -115,7 +115,7 @@ audited_in descriptors place r = unless (refusal_elsewhere place r.place) (recor
 
 -- the service state of the Method, or as it was
 abbrev pub after_change : List Descriptor → Termination → Termination
-after_change descriptors r = serviced r (unwrap_or (service_asked descriptors) r.service)
+after_change descriptors r = serviced r (unwrap_or (requested_service descriptors) r.service)
 
 abbrev pub service_changed : List Descriptor → Option CtxNum → Termination → Result Decided Code
 service_changed descriptors place r = unless (refusal_elsewhere place r.place) (record { change = Becomes (after_change descriptors r); parts = [] })

@@ -14,7 +14,7 @@ use Rattle.gw_msg.specs.declared.message.Command.{Command}
 use Rattle.gw_table.specs.Maps.{Maps}
 use Rattle.gw_table.specs.Parts.{PartKeys, holds}
 use Rattle.gw_refusal.specs.declared.at.At.{At}
-use Rattle.gw_refusal.specs.Asked.{is_some_list, is_wildcard}
+use Rattle.gw_refusal.specs.Requested.{is_some_list, is_wildcard}
 use Rattle.gw_refusal.specs.Places.{place_at, is_each}
 use Rattle.gw_cmd.specs.declared.outcome.Seen.{Seen}
 use Rattle.gw_cmd.specs.Effects.{is_full}

@@ -20,7 +20,7 @@ pub record AreKept (m : Maps) : Type 0 where
   pub links : (n : CtxNum) → All HasNames (context_of (ctx m n)).links
 
 -- the TerminationID of the command and what its descriptors hold have their forms, as those of a request do
-pub record IsAsked (c : Command) : Type 0 where
+pub record IsRequested (c : Command) : Type 0 where
   pub term : HasForm c.term
   pub descriptors : All HasKeptTexts c.descriptors
 

@@ -10,7 +10,7 @@ use Rattle.gw_table.specs.Maps.{Maps, term, ctx, names, numbers, members_of, pla
 use Rattle.gw_table.specs.Reserved.{slot_name}
 use Rattle.gw_refusal.specs.declared.at.At.{At}
 use Rattle.gw_refusal.specs.declared.at.At.TheVariants.{Null, Live, Unmade, Each}
-use Rattle.gw_refusal.specs.Asked.{is_add, is_service_change, is_root, is_wildcard}
+use Rattle.gw_refusal.specs.Requested.{is_add, is_service_change, is_root, is_wildcard}
 use Rattle.gw_refusal.specs.Places.{is_null, is_each}
 
 -- every key of the maps, and all that may still come

@@ -13,7 +13,7 @@ pub mod Refused
 pub mod Suits
 pub mod Tasks
 pub mod Written
-pub use Rattle.gw_refusal.specs.Asked
+pub use Rattle.gw_refusal.specs.Requested
 pub use Rattle.gw_refusal.specs.Forms
 pub use Rattle.gw_refusal.specs.Places
 pub use Rattle.gw_refusal.specs.Targets

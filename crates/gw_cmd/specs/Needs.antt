@@ -1,4 +1,4 @@
--- Commands by which it is shown that keys cannot be left out (own).
+-- Commands that prove that keys cannot be left out (own).
 use Rattle.std.specs.Prelude.{ℕ, Bool, false, List}
 use Rattle.gw_base.specs.declared.command_words.Verb.{Verb}
 use Rattle.gw_base.specs.declared.term_ref.TermRef.TheVariants.{Name}

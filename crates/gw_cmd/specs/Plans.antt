@@ -9,7 +9,7 @@ use Rattle.gw_term.specs.Audit.{audit_parts}
 use Rattle.gw_term.specs.declared.apply.Applied.{Applied}
 use Rattle.gw_term.specs.declared.record.Termination.{Termination}
 use Rattle.gw_table.specs.Maps.{Outcome}
-use Rattle.gw_refusal.specs.Asked.{audited}
+use Rattle.gw_refusal.specs.Requested.{audited}
 use Rattle.gw_cmd.specs.declared.change.Change.{Change}
 use Rattle.gw_cmd.specs.declared.change.Change.TheVariants.{Stays, Becomes, Joins, Crosses, Leaves}
 use Rattle.gw_cmd.specs.declared.change.Decided.{Decided}

@@ -11,7 +11,7 @@ use Rattle.gw_desc.specs.Checks.{check_code}
 use Rattle.gw_table.specs.Maps.{Maps, term, ctx}
 use Rattle.gw_refusal.specs.declared.at.At.{At}
 use Rattle.gw_refusal.specs.declared.at.At.TheVariants.{Null, Live, Unmade, Each}
-use Rattle.gw_refusal.specs.Asked.{is_some_list}
+use Rattle.gw_refusal.specs.Requested.{is_some_list}
 use Rattle.gw_refusal.specs.Forms.{refusal_by_form}
 use Rattle.gw_refusal.specs.Targets.{targets}
 

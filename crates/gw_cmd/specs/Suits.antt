@@ -15,7 +15,7 @@ use Rattle.gw_table.specs.Parts.{PartKeys, holds, HoldsPlace}
 use Rattle.gw_cmd.specs.declared.change.Change.{Change}
 use Rattle.gw_cmd.specs.declared.change.Change.TheVariants.{Stays, Becomes, Joins, Crosses, Leaves}
 use Rattle.gw_refusal.specs.declared.at.At.{At}
-use Rattle.gw_refusal.specs.Asked.{is_move}
+use Rattle.gw_refusal.specs.Requested.{is_move}
 use Rattle.gw_refusal.specs.Places.{place_at}
 use Rattle.gw_refusal.specs.Targets.{targets_of}
 

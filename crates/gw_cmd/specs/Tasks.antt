@@ -15,7 +15,7 @@ use Rattle.gw_table.specs.declared.attempts.Attempts.{Attempts}
 use Rattle.gw_table.specs.Folds.{in_order}
 use Rattle.gw_table.specs.Maps.{Maps, Outcome}
 use Rattle.gw_refusal.specs.declared.at.At.{At}
-use Rattle.gw_refusal.specs.Asked.{service_asked}
+use Rattle.gw_refusal.specs.Requested.{requested_service}
 use Rattle.gw_refusal.specs.Forms.{refusal_by_form}
 use Rattle.gw_refusal.specs.Places.{place_at}
 use Rattle.gw_cmd.specs.declared.change.Decided.{Decided}
@@ -58,7 +58,7 @@ task_service (does.Serve place service) = service
 -- the service state is that of its descriptors
 abbrev pub IsServedBy : List Descriptor → Task → Type 0
 IsServedBy descriptors (does.Act act) = Unit {0}
-IsServedBy descriptors (does.Serve place service) = service ≡ service_asked descriptors
+IsServedBy descriptors (does.Serve place service) = service ≡ requested_service descriptors
 
 -- this is what the command does, in its place
 pub record Does (t : Task) (c : Command) : Type 0 where
@@ -82,7 +82,7 @@ task_of word.Notify place service = None
 
 -- the form of the command is allowed, and this is what it does
 abbrev pub IsAllowed : At → Command → Task → Type 0
-IsAllowed at c t = (refusal_by_form at c ≡ None) × (task_of c.verb (place_at at) (service_asked c.descriptors) ≡ Some t)
+IsAllowed at c t = (refusal_by_form at c ≡ None) × (task_of c.verb (place_at at) (requested_service c.descriptors) ≡ Some t)
 
 -- what the command does, or why its form is refused
 abbrev pub IsJudged : At → Command → Result Task Code → Type 0

@@ -8,7 +8,7 @@ ghost use Rattle.gw_base.specs.NameLists.{is_in};
 ghost use Rattle.gw_table.specs.Maps.{names};
 ghost use Rattle.gw_table.specs.Parts.{holds, Holds, HoldsPlace};
 ghost use Rattle.gw_table.specs.WellFormed.{IsSound};
-ghost use Rattle.gw_refusal.specs.Asked.{is_add};
+ghost use Rattle.gw_refusal.specs.Requested.{is_add};
 ghost use Rattle.gw_refusal.specs.Forms.{refusal_by_form};
 ghost use Rattle.gw_refusal.specs.Places.{place_at};
 ghost use Rattle.gw_refusal.specs.Targets.{targets};

@@ -4,7 +4,7 @@ ghost use Rattle.std.specs.Prelude.{◌≡◌, ◌&&◌, true, false, OnOk, IfOk
 ghost use Rattle.gw_reply.specs.declared.writer.ReplyWriter.TheVariants.{TooLong};
 ghost use Rattle.gw_table.specs.Parts.{Holds};
 ghost use Rattle.gw_table.specs.WellFormed.{IsSound};
-ghost use Rattle.gw_refusal.specs.Asked.{is_some_list, is_wildcard};
+ghost use Rattle.gw_refusal.specs.Requested.{is_some_list, is_wildcard};
 ghost use Rattle.gw_cmd.specs.Commands.{allowed};
 ghost use Rattle.gw_cmd.specs.Idle.{is_full_at, leaves_all, seen_idle, IsIdle};
 ghost use Rattle.gw_cmd.specs.Keys.{command_keys};

@@ -17,7 +17,7 @@ ghost use Rattle.gw_table.specs.Locality.{KeepsTo, ChangePlaces};
 ghost use Rattle.gw_table.specs.Maps.{Maps, term, ctx, place_of, members_of};
 ghost use Rattle.gw_table.specs.WellFormed.{AreWellFormed};
 ghost use Rattle.gw_refusal.specs.declared.at.At.{At};
-ghost use Rattle.gw_cmd.specs.KeptForms.{AreKept, IsAsked, IsSlot, KeepsForms};
+ghost use Rattle.gw_cmd.specs.KeptForms.{AreKept, IsRequested, IsSlot, KeepsForms};
 ghost use Rattle.gw_refusal.specs.declared.at.At.TheVariants.{Live};
 ghost use Rattle.gw_cmd.specs.Commands.{reply, outcome_of, command};
 ghost use Rattle.gw_cmd.specs.Needs.{named, named_with};
@@ -33,7 +33,7 @@ pub fn commands_keep_tables_well_formed()
 /// A command whose TerminationID and descriptors have their forms leaves tables whose names are names and whose kept
 /// texts have their forms, and its replies have such names and texts.
 pub fn commands_keep_forms()
-    ensures { (rules : Rules) (at : At) (slot : Option ℕ) (c : Command) (m : Maps) → IsAddress rules.media → IsSlot slot → IsAsked c → AreKept m → KeepsForms (command rules at slot c m) }
+    ensures { (rules : Rules) (at : At) (slot : Option ℕ) (c : Command) (m : Maps) → IsAddress rules.media → IsSlot slot → IsRequested c → AreKept m → KeepsForms (command rules at slot c m) }
 {}
 
 /// A command in well-formed tables keeps to its keys: on their entries alone it gives the same replies, its new entries

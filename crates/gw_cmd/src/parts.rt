@@ -2,14 +2,14 @@
 
 ghost use Rattle.std.specs.Prelude.{◌≡◌, ◌++◌, IfOk};
 ghost use Rattle.gw_term.specs.Audit.{audit_parts};
-ghost use Rattle.gw_refusal.specs.Asked.{audited};
+ghost use Rattle.gw_refusal.specs.Requested.{audited};
 ghost use Rattle.gw_cmd.specs.Effects.{filled_part, parts_of};
 ghost use Rattle.gw_cmd.specs.Plans.{parts_by, parts_if};
 
 use crate::change::Change;
 use gw_base::{Items, NoMemory};
 use gw_desc::Descriptor;
-use gw_refusal::{asks_media, first_audit};
+use gw_refusal::{first_audit, requests_media};
 use gw_reply::{AuditReply, ReplyPart};
 use gw_term::{Filled, Termination};
 use std::alloc::Global;
@@ -38,7 +38,7 @@ fn filled_part(
     ensures { IfOk result (λ parts. parts ≡ filled_part descriptors.now filled) }
 {
     let mut parts = Items::new(alloc);
-    if filled.is_empty() || asks_media(descriptors) {
+    if filled.is_empty() || requests_media(descriptors) {
         return Ok(parts);
     }
     parts.push(ReplyPart::Filled(filled))?;

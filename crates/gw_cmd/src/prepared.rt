@@ -4,14 +4,14 @@ ghost use Rattle.std.specs.Prelude.{◌≡◌};
 ghost use Rattle.gw_base.specs.declared.ids.CtxNum.{CtxNum};
 ghost use Rattle.gw_desc.specs.Checks.{check_code};
 ghost use Rattle.gw_refusal.specs.declared.at.At.TheVariants.{Each};
-ghost use Rattle.gw_refusal.specs.Asked.{service_asked};
+ghost use Rattle.gw_refusal.specs.Requested.{requested_service};
 ghost use Rattle.gw_refusal.specs.Forms.{refusal_by_form};
 
 use crate::task::{Task, task_of};
 use gw_base::{Code, CtxNum, Rules, Service};
 use gw_desc::check;
 use gw_msg::Command;
-use gw_refusal::{At, refusal_by_form, service_asked};
+use gw_refusal::{At, refusal_by_form, requested_service};
 use gw_term::Merger;
 
 /// A command under the gateway's rules, with what is found of it once for all contexts and terminations.
@@ -31,7 +31,7 @@ pub struct Prepared<'a, 'b> {
     pub(crate) merger: Merger<'a, 'b>,
     ghost refused: { (n : CtxNum) → refused_in_each ≡ refusal_by_form (Each n) command.now },
     ghost checked: { wrong ≡ check_code command.now.verb command.now.descriptors },
-    ghost served: { service ≡ service_asked command.now.descriptors },
+    ghost served: { service ≡ requested_service command.now.descriptors },
     ghost ruled: { merger.rules.now ≡ rules.now },
     ghost merged: { merger.descriptors.now ≡ command.now.descriptors },
 }
@@ -68,7 +68,7 @@ impl<'a, 'b> Prepared<'a, 'b> {
             command,
             refused_in_each: refusal_in_each(command),
             wrong: wrong_with(command),
-            service: service_asked(command.descriptors.as_slice()),
+            service: requested_service(command.descriptors.as_slice()),
             merger: Merger::new(rules, command.descriptors.as_slice()),
         }
     }

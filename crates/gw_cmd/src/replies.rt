@@ -4,7 +4,7 @@ ghost use Rattle.std.specs.Prelude.{◌≡◌, ◌∷◌, [], ◌&&◌, true, fa
 ghost use Rattle.gw_reply.specs.declared.writer.ReplyWriter.{ReplyWriter};
 ghost use Rattle.gw_reply.specs.declared.writer.ReplyWriter.TheVariants.{TooLong};
 ghost use Rattle.gw_reply.specs.declared.reply.CommandReply.{CommandReply};
-ghost use Rattle.gw_refusal.specs.Asked.{is_wildcard};
+ghost use Rattle.gw_refusal.specs.Requested.{is_wildcard};
 ghost use Rattle.gw_cmd.specs.Commands.{reply, outcome_of, outcome_written};
 ghost use Rattle.gw_cmd.specs.Written.{new_term, outcome_behind, seen};
 

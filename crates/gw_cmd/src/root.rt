@@ -7,7 +7,7 @@ ghost use Rattle.gw_base.specs.declared.key.Key.TheVariants.{Term};
 ghost use Rattle.gw_base.specs.NameLists.{is_in};
 ghost use Rattle.gw_table.specs.Maps.{names};
 ghost use Rattle.gw_table.specs.Parts.{holds};
-ghost use Rattle.gw_refusal.specs.Asked.{audited};
+ghost use Rattle.gw_refusal.specs.Requested.{audited};
 ghost use Rattle.gw_cmd.specs.Commands.{all_serviced, serviced_if, bare_answer};
 ghost use Rattle.gw_cmd.specs.Tasks.{task_verb, task_service};
 

@@ -1,7 +1,7 @@
 //! Commands that are refused by the tables as they are, or by what is wrong with their descriptors.
 
 ghost use Rattle.std.specs.Prelude.{◌≡◌};
-ghost use Rattle.gw_refusal.specs.Asked.{is_some_list};
+ghost use Rattle.gw_refusal.specs.Requested.{is_some_list};
 ghost use Rattle.gw_refusal.specs.Targets.{targets};
 ghost use Rattle.gw_cmd.specs.Refusals.{has_ended, missing, refusal_by_tables};
 

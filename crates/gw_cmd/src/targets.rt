@@ -6,7 +6,7 @@ ghost use Rattle.gw_base.specs.NameLists.{is_in};
 ghost use Rattle.gw_table.specs.Maps.{term, place_of};
 ghost use Rattle.gw_table.specs.Parts.{HoldsPlace};
 ghost use Rattle.gw_table.specs.WellFormed.{IsSound};
-ghost use Rattle.gw_refusal.specs.Asked.{is_move};
+ghost use Rattle.gw_refusal.specs.Requested.{is_move};
 ghost use Rattle.gw_cmd.specs.Commands.{reply};
 ghost use Rattle.gw_cmd.specs.Effects.{on_name};
 ghost use Rattle.gw_cmd.specs.Prepared.{IsSameCommand};

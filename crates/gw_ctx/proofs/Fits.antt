@@ -10,7 +10,7 @@ use Rattle.gw_base.specs.declared.context_words.Flow.{Flow}
 use Rattle.gw_base.specs.declared.context_words.Flow.TheVariants.{Bothway, Isolate, Oneway}
 use Rattle.gw_base.specs.declared.context_words.Link.{Link}
 use Rattle.gw_base.proofs.NamesInLists.{other_way, stays_in_pushed, stays_without}
-use Rattle.gw_ctx.specs.Contexts.{ContextRecord, new_context, joined, left, prioritized, marked, linked, is_apart_from, is_other_pair, links_beside, kept_link}
+use Rattle.gw_ctx.specs.Contexts.{ContextRecord, new_context, joined, left, prioritized, with_emergency, linked, is_apart_from, is_other_pair, links_beside, kept_link}
 use Rattle.gw_ctx.specs.Fitting.{priority_max, Joins, IsFit}
 
 pub fit_new : IsFit new_context
@@ -19,7 +19,7 @@ fit_new = record { priority = omega arith; joins = λ k d h. absurd (omega arith
 pub fit_joined : (t : List ℕ) (c : ContextRecord) → IsFit c → IsFit (joined t c)
 fit_joined t c f = record {
   priority = f.priority;
-  joins = λ k d h. let j : Joins c.members (get_or c.links k d) = f.joins k d h in record { first = stays_in_pushed _ t c.members j.first; second = stays_in_pushed _ t c.members j.second; apart = j.apart; told = j.told };
+  joins = λ k d h. let j : Joins c.members (get_or c.links k d) = f.joins k d h in record { first = stays_in_pushed _ t c.members j.first; second = stays_in_pushed _ t c.members j.second; apart = j.apart; not_bothway = j.not_bothway };
   pairs = f.pairs;
 }
 
@@ -36,14 +36,14 @@ fit_left t c f = record {
       let l : Link = get_or (filter (is_apart_from t) c.links) k d in
       let j : Joins c.members l = All-filter (is_apart_from t) (Joins c.members) c.links f.joins k d h in
       let n = neither_of (bytes_eq t l.a) (bytes_eq t l.b) (filter_passes (is_apart_from t) c.links k d h) in
-      record { first = stays_without t l.a c.members (other_way t l.a n.0) j.first; second = stays_without t l.b c.members (other_way t l.b n.1) j.second; apart = j.apart; told = j.told };
+      record { first = stays_without t l.a c.members (other_way t l.a n.0) j.first; second = stays_without t l.b c.members (other_way t l.b n.1) j.second; apart = j.apart; not_bothway = j.not_bothway };
   pairs = AllPairs-filter (λ k l. is_other_pair l k ≡ true) (is_apart_from t) c.links f.pairs;
 }
 
 pub fit_prioritized : (p : ℕ) (c : ContextRecord) → p ≤ priority_max → IsFit c → IsFit (prioritized p c)
 fit_prioritized p c h f = record { priority = h; joins = f.joins; pairs = f.pairs }
 
-pub fit_marked : (b : Bool) (c : ContextRecord) → IsFit c → IsFit (marked b c)
+pub fit_marked : (b : Bool) (c : ContextRecord) → IsFit c → IsFit (with_emergency b c)
 fit_marked b c f = record { priority = f.priority; joins = f.joins; pairs = f.pairs }
 
 pub fit_linked : (l : Link) (c : ContextRecord) → is_in l.a c.members ≡ true → is_in l.b c.members ≡ true → bytes_eq l.a l.b ≡ false → IsFit c → IsFit (linked l c)
@@ -59,7 +59,7 @@ fit_linked l c a b two f = record { priority = f.priority; joins = joins l.flow 
     apart = AllPairs-filter (λ k n. is_other_pair n k ≡ true) (is_other_pair l) c.links f.pairs
 
     new : l.flow ≢ Bothway → Joins c.members l
-    new h = record { first = a; second = b; apart = two; told = h }
+    new h = record { first = a; second = b; apart = two; not_bothway = h }
 
     one_more : l.flow ≢ Bothway → All (Joins c.members) (beside ++ l ∷ [])
     one_more h = All-push (Joins c.members) beside l old (new h)

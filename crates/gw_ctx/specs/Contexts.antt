@@ -61,8 +61,8 @@ abbrev pub prioritized : ℕ → ContextRecord → ContextRecord
 prioritized priority c = record { members = c.members; priority = priority; emergency = c.emergency; links = c.links }
 
 -- the context is an emergency, or is not
-abbrev pub marked : Bool → ContextRecord → ContextRecord
-marked emergency c = record { members = c.members; priority = c.priority; emergency = emergency; links = c.links }
+abbrev pub with_emergency : Bool → ContextRecord → ContextRecord
+with_emergency emergency c = record { members = c.members; priority = c.priority; emergency = emergency; links = c.links }
 
 -- media flow so between the two: the link of this pair goes, and the new one, unless it is both ways, goes last
 abbrev pub linked : Link → ContextRecord → ContextRecord

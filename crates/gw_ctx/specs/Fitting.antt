@@ -14,7 +14,7 @@ pub record Joins (members : List (List ℕ)) (link : Link) : Type 0 where
   pub first : is_in link.a members ≡ true
   pub second : is_in link.b members ≡ true
   pub apart : bytes_eq link.a link.b ≡ false
-  pub told : link.flow ≢ Bothway
+  pub not_bothway : link.flow ≢ Bothway
 
 -- a priority that there is, and links between members, at most one for a pair
 pub record IsFit (c : ContextRecord) : Type 0 where

@@ -2,7 +2,7 @@
 
 ghost use Rattle.std.specs.Prelude.{◌≡◌, ◌≤◌, ◌↔◌, length, IfOk, OnOk, OnErr, IsErrOf, true, false};
 ghost use Rattle.gw_base.specs.NameLists.{is_in};
-ghost use Rattle.gw_ctx.specs.Contexts.{new_context, joined, left, prioritized, marked, linked};
+ghost use Rattle.gw_ctx.specs.Contexts.{new_context, joined, left, prioritized, with_emergency, linked};
 
 use crate::fault::JoinFault;
 use crate::links::{LinkIter, Links};
@@ -130,14 +130,14 @@ impl Context {
 
     /// The context is an emergency from now on.
     pub fn set_emergency(&mut self)
-        ensures { self.new ≡ marked true self.old }
+        ensures { self.new ≡ with_emergency true self.old }
     {
         self.emergency = true;
     }
 
     /// Sets both properties: the priority, and whether the context is an emergency.
     pub fn set_properties(&mut self, priority: u8, emergency: bool)
-        ensures { self.new ≡ prioritized priority (marked emergency self.old) }
+        ensures { self.new ≡ prioritized priority (with_emergency emergency self.old) }
     {
         self.set_priority(priority);
         self.emergency = emergency;

@@ -8,7 +8,7 @@ use Rattle.std.proofs.lemmas.List.Sums.{length-filter}
 use Rattle.std.proofs.lemmas.Slice.Eq.{bytes_eq-Decides}
 use Rattle.gw_base.specs.Bytes.{is_one_of}
 use Rattle.gw_text.specs.Runs.{begins}
-use Rattle.gw_desc.specs.Fill.{line_ends, field_ends, ends_of, lines_of, fields_of, laid, has_choose, with_field, put, is_connection, is_media_line, filled_line, is_fillable_line, filled_text, filled, is_fillable, port_of}
+use Rattle.gw_desc.specs.Fill.{line_ends, field_ends, ends_of, lines_of, fields_of, interleaved, has_choose, with_field, put, is_connection, is_media_line, filled_line, is_fillable_line, filled_text, filled, is_fillable, port_of}
 use Rattle.gw_desc.specs.FillSteps.{IsWhole, is_field_end, IsPut, IsFilledOnce, IsChain, IsReached}
 use Rattle.gw_desc.proofs.Fills.{none_passes, ends_next, laid_again}
 
@@ -49,8 +49,8 @@ one_more p text = omega (arith, length-slice_split p text, length-filter p text)
 record IsAt (p : ℕ → Bool) (place : ℕ) (new : List ℕ) (parts : List (List ℕ)) (ends : List ℕ) : Type 0 where
   before : List ℕ
   behind : List ℕ
-  was : laid parts ends ≡ before ++ (codes "$" ++ behind)
-  is : laid (slice_set parts place new) ends ≡ before ++ (new ++ behind)
+  was : interleaved parts ends ≡ before ++ (codes "$" ++ behind)
+  is : interleaved (slice_set parts place new) ends ≡ before ++ (new ++ behind)
   whole : (before ≡ []) ⊎ ((front : List ℕ) × (end : ℕ) × (before ≡ front ++ end ∷ []) × (p end ≡ true))
   counted : length (filter p before) ≡ place
   ended : (behind ≡ []) ⊎ (begins p behind ≡ true)
@@ -67,8 +67,8 @@ field_at p place new [] ends clean are same found = absurd (omega (arith, same))
 field_at p zero new (part ∷ parts) [] clean are same found = record { before = []; behind = []; was = found; is = sym (append-nil new); whole = inl refl; counted = refl; ended = inl refl }
 field_at p zero new (part ∷ parts) (e ∷ es) clean are same found = record {
   before = [];
-  behind = e ∷ laid parts es;
-  was = ap (λ (x : List ℕ). x ++ e ∷ laid parts es) found;
+  behind = e ∷ interleaved parts es;
+  was = ap (λ (x : List ℕ). x ++ e ∷ interleaved parts es) found;
   is = refl;
   whole = inl refl;
   counted = refl;
@@ -225,14 +225,14 @@ step_behind address port front old text w (inr s) = inr (put_behind is_media_lin
 -- ---- lines
 
 lines_reached : (address port : List ℕ) (lines : List (List ℕ)) (ends : List ℕ) → AllByRecursion (IsClean (is_one_of line_ends)) lines → AreEnds (is_one_of line_ends) ends → length lines ≡ suc (length ends)
-    → IsReached (IsFilledOnce address port) (laid lines ends) (laid (map (filled_line address port) lines) ends)
+    → IsReached (IsFilledOnce address port) (interleaved lines ends) (interleaved (map (filled_line address port) lines) ends)
 lines_reached address port [] ends clean are same = absurd (omega (arith, same))
 lines_reached address port (line ∷ lines) [] clean are same = line_reached address port line clean.0
 lines_reached address port (line ∷ lines) (e ∷ es) clean are same =
     let IsStep : List ℕ → List ℕ → Type 0 = IsFilledOnce address port in
     let new : List ℕ = filled_line address port line in
-    let rest : List ℕ = laid lines es in
-    let filled : List ℕ = laid (map (filled_line address port) lines) es in
+    let rest : List ℕ = interleaved lines es in
+    let filled : List ℕ = interleaved (map (filled_line address port) lines) es in
     let front : List ℕ = new ++ e ∷ [] in
     let this = reached_map IsStep (λ x. x ++ e ∷ rest) (λ a b s. step_before address port (e ∷ rest) a b are.0 s) line new (line_reached address port line clean.0) in
     let later = reached_map IsStep (λ x. front ++ x) (λ a b s. step_behind address port front a b (inr (new, e, refl, are.0)) s) rest filled (lines_reached address port lines es clean.1 are.1 (omega (arith, same))) in
@@ -271,7 +271,7 @@ lines_same address port (line ∷ lines) h =
 
 pub nothing_filled : (address port text : List ℕ) → is_fillable text ≡ false → filled_text address port text ≡ text
 unfolding filled_text is_fillable
-nothing_filled address port text h = ap (λ (l : List (List ℕ)). laid l (ends_of line_ends text)) (lines_same address port (lines_of text) h) ∙ laid_again (is_one_of line_ends) text
+nothing_filled address port text h = ap (λ (l : List (List ℕ)). interleaved l (ends_of line_ends text)) (lines_same address port (lines_of text) h) ∙ laid_again (is_one_of line_ends) text
 
 -- ---- with the port of a stream
 

@@ -7,7 +7,7 @@ use Rattle.std.proofs.lemmas.List.Sums.{length-filter, count_by-le-length}
 use Rattle.std.proofs.lemmas.List.Folds.{list_any-append}
 use Rattle.std.proofs.lemmas.Slice.Eq.{bytes_eq-Decides}
 use Rattle.gw_base.specs.Bytes.{is_one_of, is_digit}
-use Rattle.gw_desc.specs.Fill.{line_ends, field_ends, ends_of, lines_of, fields_of, laid, has_choose, with_field, put, is_connection, is_media_line, filled_line, is_fillable_line, filled_text, filled, is_fillable, port_of}
+use Rattle.gw_desc.specs.Fill.{line_ends, field_ends, ends_of, lines_of, fields_of, interleaved, has_choose, with_field, put, is_connection, is_media_line, filled_line, is_fillable_line, filled_text, filled, is_fillable, port_of}
 use Rattle.gw_desc.specs.FillSteps.{IsWhole}
 use Rattle.gw_base.specs.Addresses.{IsAddress, is_address_byte}
 use Rattle.gw_desc.proofs.Fills.{parts_next, parts_last}
@@ -16,12 +16,12 @@ use Rattle.gw_desc.proofs.FillChain.{IsClean, AreEnds, parts_clean, ends_are, on
 
 -- ---- parts that are laid out are read again
 
-split_laid : (p : ℕ → Bool) (parts : List (List ℕ)) (ends : List ℕ) → AllByRecursion (IsClean p) parts → AreEnds p ends → length parts ≡ suc (length ends) → slice_split p (laid parts ends) ≡ parts
+split_laid : (p : ℕ → Bool) (parts : List (List ℕ)) (ends : List ℕ) → AllByRecursion (IsClean p) parts → AreEnds p ends → length parts ≡ suc (length ends) → slice_split p (interleaved parts ends) ≡ parts
 split_laid p [] ends clean are same = absurd (omega (arith, same))
 split_laid p (part ∷ []) [] clean are same = parts_last p part clean.0
 split_laid p (part ∷ (other ∷ parts)) [] clean are same = absurd (omega (arith, same))
 split_laid p (part ∷ parts) (e ∷ es) clean are same =
-    parts_next p part (laid parts es) e clean.0 are.0 ∙ ap (λ (l : List (List ℕ)). part ∷ l) (split_laid p parts es clean.1 are.1 (omega (arith, same)))
+    parts_next p part (interleaved parts es) e clean.0 are.0 ∙ ap (λ (l : List (List ℕ)). part ∷ l) (split_laid p parts es clean.1 are.1 (omega (arith, same)))
 
 clean_set : (p : ℕ → Bool) (place : ℕ) (new : List ℕ) (parts : List (List ℕ)) → IsClean p new → AllByRecursion (IsClean p) parts → AllByRecursion (IsClean p) (slice_set parts place new)
 clean_set p place new [] n clean = tt
@@ -87,7 +87,7 @@ no_choose_left place new line h choose =
     let p : ℕ → Bool = is_one_of field_ends in
     let parts : List (List ℕ) = slice_set (fields_of line) place new in
     let same : length parts ≡ suc (length (ends_of field_ends line)) = length_set place new (fields_of line) ∙ one_more p line in
-    let read : fields_of (laid parts (ends_of field_ends line)) ≡ parts =
+    let read : fields_of (interleaved parts (ends_of field_ends line)) ≡ parts =
     split_laid p parts (ends_of field_ends line) (clean_set p place new (fields_of line) h.no_field (parts_clean p line)) (ends_are p line) same in
     let was : slice_index_or (fields_of line) place [] ≡ codes "$" = (bytes_eq-Decides (slice_index_or (fields_of line) place []) (codes "$")).0 choose in
     ap (λ (l : List (List ℕ)). bytes_eq (slice_index_or l place []) (codes "$")) read
@@ -238,7 +238,7 @@ unfolding filled_text is_fillable
 text_left address port text a p =
     let q : ℕ → Bool = is_one_of line_ends in
     let lines : List (List ℕ) = map (filled_line address port) (lines_of text) in
-    let read : lines_of (laid lines (ends_of line_ends text)) ≡ lines =
+    let read : lines_of (interleaved lines (ends_of line_ends text)) ≡ lines =
     split_laid q lines (ends_of line_ends text) (lines_clean address port (lines_of text) a p (parts_clean q text)) (ends_are q text) (length_filled (filled_line address port) (lines_of text) ∙ one_more q text) in
     ap (list_any is_fillable_line) read ∙ lines_left address port (lines_of text) a p (parts_clean q text)
 

@@ -60,10 +60,10 @@ written out o1 o2 o3 piece back whole end first second third is =
     ∙ sym (ap (λ (x : List ℕ). out ++ x) is)
 
 -- the field stands first, and what is behind it stays
-pub first_written : (place : ℕ) (new line field back out o1 o2 o3 : List ℕ) (end : ℕ) (told : Bool) → place ≡ 0 → line ≡ field ++ end ∷ back → list_any (is_one_of field_ends) field ≡ false → is_one_of field_ends end ≡ true
-    → o1 ≡ out ++ (if place == 0 && bytes_eq field (codes "$") then new else field) → o2 ≡ o1 ++ end ∷ [] → o3 ≡ o2 ++ back → told ≡ (place == 0 && bytes_eq field (codes "$"))
-    → (o3 ≡ out ++ put place new line) × (told ≡ has_choose place line)
-first_written place new line field back out o1 o2 o3 end told here split none ends first second third said =
+pub first_written : (place : ℕ) (new line field back out o1 o2 o3 : List ℕ) (end : ℕ) (recognized : Bool) → place ≡ 0 → line ≡ field ++ end ∷ back → list_any (is_one_of field_ends) field ≡ false → is_one_of field_ends end ≡ true
+    → o1 ≡ out ++ (if place == 0 && bytes_eq field (codes "$") then new else field) → o2 ≡ o1 ++ end ∷ [] → o3 ≡ o2 ++ back → recognized ≡ (place == 0 && bytes_eq field (codes "$"))
+    → (o3 ≡ out ++ put place new line) × (recognized ≡ has_choose place line)
+first_written place new line field back out o1 o2 o3 end recognized here split none ends first second third said =
     let e = put_first new line field back end split none ends in (
       written out o1 o2 o3 (if bytes_eq field (codes "$") then new else field) back (put place new line) end (rw here at first) second third (ap (λ (p : ℕ). put p new line) here ∙ e.0),
       (rw here at said) ∙ sym e.1 ∙ sym (ap (λ (p : ℕ). has_choose p line) here),
@@ -81,7 +81,7 @@ later_text (Ok x) place n new line field back out o1 o2 o3 end later split none 
 later_text (Err x) place n new line field back out o1 o2 o3 end later split none ends first second third = tt
 
 pub later_told : {E : Type 0} (r : Result Bool E) (place n : ℕ) (new line field back : List ℕ) (end : ℕ) → place ≡ suc n → line ≡ field ++ end ∷ back → list_any (is_one_of field_ends) field ≡ false → is_one_of field_ends end ≡ true
-    → IfOk r (λ told. told ≡ has_choose n back) → IfOk r (λ told. told ≡ has_choose place line)
+    → IfOk r (λ recognized. recognized ≡ has_choose n back) → IfOk r (λ recognized. recognized ≡ has_choose place line)
 later_told (Ok x) place n new line field back end later split none ends said = said ∙ sym (put_later place n new line field back end later split none ends).1
 later_told (Err x) place n new line field back end later split none ends said = tt
 

@@ -257,11 +257,11 @@ at_media address port line at other is choice =
 
 -- ---- whether there was one
 
-pub told_past : (told line rest all d : Bool) → (told || d) ≡ all → d ≡ (line || rest) → false ≡ line → (told || rest) ≡ all
-told_past told line rest all d before next none = ap (λ (t : Bool). told || (t || rest)) none ∙ ap (λ (t : Bool). told || t) (sym next) ∙ before
+pub told_past : (recognized line rest all d : Bool) → (recognized || d) ≡ all → d ≡ (line || rest) → false ≡ line → (recognized || rest) ≡ all
+told_past recognized line rest all d before next none = ap (λ (t : Bool). recognized || (t || rest)) none ∙ ap (λ (t : Bool). recognized || t) (sym next) ∙ before
 
-pub told_here : (told line rest all d : Bool) → (told || d) ≡ all → d ≡ (line || rest) → true ≡ line → true ≡ all
-told_here told line rest all d before next one = by told ∙ ap (λ (t : Bool). told || (t || rest)) one ∙ ap (λ (t : Bool). told || t) (sym next) ∙ before
+pub told_here : (recognized line rest all d : Bool) → (recognized || d) ≡ all → d ≡ (line || rest) → true ≡ line → true ≡ all
+told_here recognized line rest all d before next one = by recognized ∙ ap (λ (t : Bool). recognized || (t || rest)) one ∙ ap (λ (t : Bool). recognized || t) (sym next) ∙ before
   where
     by : (t : Bool) → true ≡ (t || (true || rest))
     by true = refl

@@ -2,7 +2,7 @@
 use Rattle.std.proofs.Common.{◌≡◌, ℕ, ◌<◌, Bool, true, false, ◌||◌, List, [], ◌∷◌, ◌++◌, length, refl, ap, ◌∙◌, arith}
 use Rattle.std.specs.List.{filter, list_any, slice_split, onto_first}
 use Rattle.std.proofs.lemmas.List.Splits.{length-slice_split}
-use Rattle.gw_desc.specs.Fill.{laid}
+use Rattle.gw_desc.specs.Fill.{interleaved}
 
 -- no element passes, and so neither does the first one, nor one behind it
 pub none_passes : (p : ℕ → Bool) (x : ℕ) (xs : List ℕ) → list_any p (x ∷ xs) ≡ false → (p x ≡ false) × (list_any p xs ≡ false)
@@ -45,15 +45,15 @@ ends_last p (b ∷ bs) none =
 
 -- ---- parts laid out again are the text
 
-onto_front : (b : ℕ) (parts : List (List ℕ)) (ends : List ℕ) → 0 < length parts → laid (onto_first b parts) ends ≡ b ∷ laid parts ends
+onto_front : (b : ℕ) (parts : List (List ℕ)) (ends : List ℕ) → 0 < length parts → interleaved (onto_first b parts) ends ≡ b ∷ interleaved parts ends
 onto_front b [] ends h = absurd (omega arith)
 onto_front b (part ∷ parts) [] h = refl
 onto_front b (part ∷ parts) (end ∷ ends) h = refl
 
-again : (p : ℕ → Bool) (b : ℕ) (bs : List ℕ) (t : Bool) → p b ≡ t → laid (slice_split p bs) (filter p bs) ≡ bs → laid (slice_split p (b ∷ bs)) (filter p (b ∷ bs)) ≡ b ∷ bs
+again : (p : ℕ → Bool) (b : ℕ) (bs : List ℕ) (t : Bool) → p b ≡ t → interleaved (slice_split p bs) (filter p bs) ≡ bs → interleaved (slice_split p (b ∷ bs)) (filter p (b ∷ bs)) ≡ b ∷ bs
 again p b bs true e rest = rw e (ap (λ (t : List ℕ). b ∷ t) rest)
 again p b bs false e rest = rw e (onto_front b (slice_split p bs) (filter p bs) (omega (arith, length-slice_split p bs)) ∙ ap (λ (t : List ℕ). b ∷ t) rest)
 
-pub laid_again : (p : ℕ → Bool) (text : List ℕ) → laid (slice_split p text) (filter p text) ≡ text
+pub laid_again : (p : ℕ → Bool) (text : List ℕ) → interleaved (slice_split p text) (filter p text) ≡ text
 laid_again p [] = refl
 laid_again p (b ∷ bs) = again p b bs (p b) refl (laid_again p bs)

@@ -9,7 +9,7 @@ use Rattle.std.proofs.lemmas.List.{get_or-set_other, get_or-set_same, get_or-rep
 use Rattle.std.proofs.lemmas.Bool.Decides.{eqb_tells, leb_tells}
 use Rattle.std.specs.Int.Bits.{and_zero_l}
 use Rattle.std.proofs.lemmas.Grind.{get_or-set_at}
-use Rattle.gw_desc.specs.Marks.{is_marked, with_mark}
+use Rattle.gw_desc.specs.NumberSet.{is_in_set, with_mark}
 use Rattle.gw_desc.specs.Twice.{has_number_twice}
 use Rattle.gw_desc.specs.Checks.{number_in, numbers_in}
 use Rattle.gw_desc.specs.declared.descriptor.MediaPart.{MediaPart}
@@ -41,8 +41,8 @@ unfolding with_mark
 length-marked seen n = length-set seen (n / 64) _
 
 -- what is marked afterwards: that number, and what was
-marked_one : (seen : List ℕ) (n q : ℕ) (t : Bool) → (n == q) ≡ t → n / 64 < length seen → is_marked (with_mark seen n) q ≡ (t || is_marked seen q)
-unfolding is_marked
+marked_one : (seen : List ℕ) (n q : ℕ) (t : Bool) → (n == q) ≡ t → n / 64 < length seen → is_in_set (with_mark seen n) q ≡ (t || is_in_set seen q)
+unfolding is_in_set
 marked_one seen n q true e h =
     let same : n ≡ q = eqb-true n q e in
     ap (λ (k : ℕ). not (mark (with_mark seen n) k == 0)) (sym same) ∙ ap not (ne_eqb (mark (with_mark seen n) n) 0 (mark-self seen n h))
@@ -55,10 +55,10 @@ or_swap false true true d = refl
 or_swap false true false d = refl
 or_swap false false c d = refl
 
-any_marked : (seen : List ℕ) (n : ℕ) (rest : List ℕ) → n / 64 < length seen → list_any (is_marked (with_mark seen n)) rest ≡ (list_any (λ q. n == q) rest || list_any (is_marked seen) rest)
+any_marked : (seen : List ℕ) (n : ℕ) (rest : List ℕ) → n / 64 < length seen → list_any (is_in_set (with_mark seen n)) rest ≡ (list_any (λ q. n == q) rest || list_any (is_in_set seen) rest)
 any_marked seen n [] h = refl
 any_marked seen n (q ∷ qs) h =
-    rw (marked_one seen n q (n == q) refl h, any_marked seen n qs h) (or_swap (n == q) (is_marked seen q) (list_any (λ k. n == k) qs) (list_any (is_marked seen) qs))
+    rw (marked_one seen n q (n == q) refl h, any_marked seen n qs h) (or_swap (n == q) (is_in_set seen q) (list_any (λ k. n == k) qs) (list_any (is_in_set seen) qs))
 
 or_turn : (a b c : Bool) → (a || (b || c)) ≡ ((b || a) || c)
 or_turn true true c = refl
@@ -67,14 +67,14 @@ or_turn false true c = refl
 or_turn false false c = refl
 
 -- a number that has no mark yet, and those behind it
-pub mark_next : (seen : List ℕ) (n : ℕ) (rest : List ℕ) → length seen ≡ 1024 → n < 2 ^ 16 → is_marked seen n ≡ false
-    → (list_any (is_marked seen) (n ∷ rest) || has_number_twice (n ∷ rest)) ≡ (list_any (is_marked (with_mark seen n)) rest || has_number_twice rest)
+pub mark_next : (seen : List ℕ) (n : ℕ) (rest : List ℕ) → length seen ≡ 1024 → n < 2 ^ 16 → is_in_set seen n ≡ false
+    → (list_any (is_in_set seen) (n ∷ rest) || has_number_twice (n ∷ rest)) ≡ (list_any (is_in_set (with_mark seen n)) rest || has_number_twice rest)
 unfolding has_number_twice
 mark_next seen n rest room small none =
-    rw (none, any_marked seen n rest (omega (arith, room, div-add-mod n 64))) (or_turn (list_any (is_marked seen) rest) (list_any (λ q. n == q) rest) (has_number_twice rest))
+    rw (none, any_marked seen n rest (omega (arith, room, div-add-mod n 64))) (or_turn (list_any (is_in_set seen) rest) (list_any (λ q. n == q) rest) (has_number_twice rest))
 
 -- one that has its mark
-pub mark_found : (seen : List ℕ) (n : ℕ) (rest : List ℕ) → is_marked seen n ≡ true → (list_any (is_marked seen) (n ∷ rest) || has_number_twice (n ∷ rest)) ≡ true
+pub mark_found : (seen : List ℕ) (n : ℕ) (rest : List ℕ) → is_in_set seen n ≡ true → (list_any (is_in_set seen) (n ∷ rest) || has_number_twice (n ∷ rest)) ≡ true
 mark_found seen n rest found = rw found refl
 
 unmarked_at : (n i : ℕ) → get_or (replicate n zero) i 0 ≡ 0
@@ -83,22 +83,22 @@ unmarked_at n i = elim (leb_tells n i) [
   | inr t ↦ get_or-replicate n i zero zero t.1
 ]
 
-no_mark : (seen : List ℕ) (n : ℕ) → get_or seen (n / 64) 0 ≡ 0 → is_marked seen n ≡ false
-unfolding is_marked
+no_mark : (seen : List ℕ) (n : ℕ) → get_or seen (n / 64) 0 ≡ 0 → is_in_set seen n ≡ false
+unfolding is_in_set
 no_mark seen n clear = ap (λ (w : ℕ). not (bit_and w (2 ^ (n % 64)) == 0)) clear ∙ ap (λ (w : ℕ). not (w == 0)) (and_zero_l (2 ^ (n % 64)))
 
-no_marks : (seen numbers : List ℕ) → ((i : ℕ) → get_or seen i 0 ≡ 0) → list_any (is_marked seen) numbers ≡ false
+no_marks : (seen numbers : List ℕ) → ((i : ℕ) → get_or seen i 0 ≡ 0) → list_any (is_in_set seen) numbers ≡ false
 no_marks seen [] clear = refl
 no_marks seen (n ∷ ns) clear = rw (no_mark seen n (clear (n / 64)), no_marks seen ns clear) refl
 
-pub none_marked : (numbers : List ℕ) → list_any (is_marked (replicate 1024 zero)) numbers ≡ false
+pub none_marked : (numbers : List ℕ) → list_any (is_in_set (replicate 1024 zero)) numbers ≡ false
 none_marked numbers = no_marks (replicate 1024 zero) numbers (unmarked_at 1024)
 
 -- ---- the parts of a Media, from one to the next
 
 -- that a number is marked, or stands twice among those that are left
 abbrev pub left_twice : List ℕ → List ℕ → Bool
-left_twice seen numbers = list_any (is_marked seen) numbers || has_number_twice numbers
+left_twice seen numbers = list_any (is_in_set seen) numbers || has_number_twice numbers
 
 next_part : (parts : List MediaPart) (i : ℕ) (p : MediaPart) → i < length parts → p ≡ get_or parts i p → numbers_in (drop i parts) ≡ number_in p ++ numbers_in (drop (i + 1) parts)
 next_part parts i p h is = ap numbers_in (at_place parts i p h) ∙ ap (λ (q : MediaPart). number_in q ++ numbers_in (drop (i + 1) parts)) (sym is)
@@ -108,13 +108,13 @@ pub past_other : (seen : List ℕ) (parts : List MediaPart) (i : ℕ) (p : Media
 past_other seen parts i p h is none = ap (left_twice seen) (next_part parts i p h is ∙ ap (λ (front : List ℕ). front ++ numbers_in (drop (i + 1) parts)) none)
 
 pub past_number : (seen : List ℕ) (parts : List MediaPart) (i n : ℕ) (p : MediaPart) → i < length parts → p ≡ get_or parts i p → number_in p ≡ n ∷ []
-    → length seen ≡ 1024 → n < 2 ^ 16 → is_marked seen n ≡ false
+    → length seen ≡ 1024 → n < 2 ^ 16 → is_in_set seen n ≡ false
     → left_twice seen (numbers_in (drop i parts)) ≡ left_twice (with_mark seen n) (numbers_in (drop (i + 1) parts))
 past_number seen parts i n p h is one room small none =
     ap (left_twice seen) (next_part parts i p h is ∙ ap (λ (front : List ℕ). front ++ numbers_in (drop (i + 1) parts)) one)
     ∙ mark_next seen n (numbers_in (drop (i + 1) parts)) room small none
 
-pub found_number : (seen : List ℕ) (parts : List MediaPart) (i n : ℕ) (p : MediaPart) → i < length parts → p ≡ get_or parts i p → number_in p ≡ n ∷ [] → is_marked seen n ≡ true
+pub found_number : (seen : List ℕ) (parts : List MediaPart) (i n : ℕ) (p : MediaPart) → i < length parts → p ≡ get_or parts i p → number_in p ≡ n ∷ [] → is_in_set seen n ≡ true
     → left_twice seen (numbers_in (drop i parts)) ≡ true
 found_number seen parts i n p h is one found =
     ap (left_twice seen) (next_part parts i p h is ∙ ap (λ (front : List ℕ). front ++ numbers_in (drop (i + 1) parts)) one)

@@ -182,12 +182,12 @@ same_item item.ObservedEvents item.ObservedEvents = true
 same_item item.Packages item.Packages = true
 same_item _ _ = false
 
-abbrev pub asks_for : AuditItem → Option AuditItem → Bool
-asks_for wanted None = false
-asks_for wanted (Some found) = same_item wanted found
+abbrev pub requests_item : AuditItem → Option AuditItem → Bool
+requests_item wanted None = false
+requests_item wanted (Some found) = same_item wanted found
 
 abbrev pub is_asking : AuditItem → List ℕ → Bool
-is_asking wanted word = asks_for wanted (item_of word)
+is_asking wanted word = requests_item wanted (item_of word)
 
 unfoldable pub has_item_twice : List (List ℕ) → Bool
 has_item_twice words =

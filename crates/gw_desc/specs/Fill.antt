@@ -23,10 +23,10 @@ abbrev pub ends_of : List ℕ → List ℕ → List ℕ
 ends_of ends text = filter (is_one_of ends) text
 
 -- parts in a row, with each end behind its part
-abbrev pub laid : List (List ℕ) → List ℕ → List ℕ
-laid [] ends = []
-laid (part ∷ parts) [] = part
-laid (part ∷ parts) (end ∷ ends) = part ++ end ∷ laid parts ends
+abbrev pub interleaved : List (List ℕ) → List ℕ → List ℕ
+interleaved [] ends = []
+interleaved (part ∷ parts) [] = part
+interleaved (part ∷ parts) (end ∷ ends) = part ++ end ∷ interleaved parts ends
 
 abbrev pub lines_of : List ℕ → List (List ℕ)
 lines_of text = pieces_of line_ends text
@@ -42,7 +42,7 @@ has_choose place line = bytes_eq (slice_index_or (fields_of line) place []) (cod
 
 -- the line with another text as its field of this place
 abbrev pub with_field : ℕ → List ℕ → List ℕ → List ℕ
-with_field place text line = laid (slice_set (fields_of line) place text) (ends_of field_ends line)
+with_field place text line = interleaved (slice_set (fields_of line) place text) (ends_of field_ends line)
 
 -- the same, if that field is `$`; else the line as it is
 unfoldable pub put : ℕ → List ℕ → List ℕ → List ℕ
@@ -83,7 +83,7 @@ port_of slot stream = 16384 + 8 * slot + 2 * (stream - 1)
 
 -- each line filled with this address and this port
 unfoldable pub filled_text : List ℕ → List ℕ → List ℕ → List ℕ
-filled_text address port text = laid (map (filled_line address port) (lines_of text)) (ends_of line_ends text)
+filled_text address port text = interleaved (map (filled_line address port) (lines_of text)) (ends_of line_ends text)
 
 -- a Local of this slot's termination, in this stream, filled with the address
 unfoldable pub filled : List ℕ → ℕ → ℕ → List ℕ → List ℕ

@@ -66,7 +66,7 @@ fn choice_in(line: &[u8], place: usize) -> Option<usize>
 /// Where a line has a `$` to fill, and the text to fill it with.
 #[tactic(auto, unfolding(crate::specs::Fill::filled_line, crate::specs::Fill::is_fillable_line, crate::specs::Fill::put))]
 fn choice_of<'a>(line: &[u8], address: &'a [u8], port: &'a [u8]) -> Option<(usize, &'a [u8])>
-    ensures told { is_some result ≡ is_fillable_line line.now }
+    ensures fillable { is_some result ≡ is_fillable_line line.now }
     ensures filled { MatchOption result (filled_line address.now port.now line.now ≡ line.now) (λ r. IsFilledAt r.0 r.1.now line.now (filled_line address.now port.now line.now)) }
 {
     if line.starts_with(b"c=") {
@@ -134,7 +134,7 @@ fn write_last(
     requires within { same ≤ length text.now }
     requires last { list_any (is_one_of line_ends) (drop same text.now) ≡ false }
     ensures text { OnOk result (out.new.items ≡ out.old.items ++ (take same text.now ++ filled_text address.now port.now (drop same text.now))) }
-    ensures told { IfOk result (λ told. told ≡ is_fillable (drop same text.now)) }
+    ensures fillable { IfOk result (λ fillable. fillable ≡ is_fillable (drop same text.now)) }
 {
     match choice_of(text_from(text, same), address, port) {
         Some((at, new)) => {
@@ -158,9 +158,9 @@ fn write_lines(
     out: &mut Vec<u8>,
 ) -> Result<bool, AllocError>
     ensures text { OnOk result (out.new.items ≡ out.old.items ++ filled_text address.now port.now text.now) }
-    ensures told { IfOk result (λ told. told ≡ is_fillable text.now) }
+    ensures fillable { IfOk result (λ fillable. fillable ≡ is_fillable text.now) }
 {
-    let mut told = false;
+    let mut fillable = false;
     // What is not written yet, and how much of that, up to the next line, stays as it is.
     let mut rest = text;
     let mut same = 0;
@@ -170,13 +170,13 @@ fn write_lines(
                 write_to(rest, same + at, new, out)?;
                 rest = behind(rest, same + at);
                 same = len - at;
-                told = true;
+                fillable = true;
             }
             None => same += len + 1,
         }
     }
     let last = write_last(rest, same, address, port, out)?;
-    Ok(told || last)
+    Ok(fillable || last)
 }
 
 /// A Local's text in which the `$` of an ephemeral termination are filled, and whether there was one: the third field
@@ -198,13 +198,13 @@ pub fn fill_local(
     requires first { 1 ≤ stream }
     requires last { stream ≤ 4 }
     ensures text { IfOk result (λ r. r.0.items ≡ filled media.now slot stream text.now) }
-    ensures told { IfOk result (λ r. r.1 ≡ is_fillable text.now) }
+    ensures fillable { IfOk result (λ r. r.1 ≡ is_fillable text.now) }
 {
     let mut buffer = Buffer::new();
     let port = buffer.format(16384 + 8 * u32::from(slot) + 2 * u32::from(stream - 1));
     // Mostly one address and one port are filled in.
     let filled = media.as_bytes().len() + port.len();
     let mut out = Vec::with_capacity(alloc, text.len().saturating_add(filled))?;
-    let told = write_lines(text, media.as_bytes(), port.as_bytes(), &mut out)?;
-    Ok((out, told))
+    let fillable = write_lines(text, media.as_bytes(), port.as_bytes(), &mut out)?;
+    Ok((out, fillable))
 }

@@ -38,9 +38,9 @@ module _ {F J R : Type 0} (g : Shared F (Bor J × Unit {0}) R) (f : F) where
   -- r is an answer of f on the job at this place
   pub record GivesAt (jobs : List J) (i : ℕ) (r : R) : Type 0 where
     pub inside : i < length jobs
-    pub shown : Bor J
-    pub shows : (d : J) → slice_index_or jobs i d ≡ shown.now
-    pub call : g.post f (shown, tt) r
+    pub seen : Bor J
+    pub shows : (d : J) → slice_index_or jobs i d ≡ seen.now
+    pub call : g.post f (seen, tt) r
 
   -- in the place of each job is an answer of f on that job
   pub record GivesEach (jobs : List J) (rs : List R) : Type 0 where

@@ -9,7 +9,7 @@ use gw_base::NoMemory;
 use std::alloc::Global;
 
 impl Table {
-    /// A table from which nothing was drawn, and its first seat, which has the whole allowance.
+    /// A table from which nothing was drawn, and its first seat, which has all of the allowance.
     ///
     /// # Errors
     ///

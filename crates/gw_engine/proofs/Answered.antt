@@ -20,7 +20,7 @@ use Rattle.gw_reserve.specs.Owners.{slot_choices}
 use Rattle.gw_table.specs.Unused.{owned}
 use Rattle.gw_reserve.proofs.Fresh.{free_unused}
 use Rattle.gw_reserve.proofs.Choices.{owned_choices}
-use Rattle.gw_tx.specs.KeptForms.{AreSlots, IsAskedRequest}
+use Rattle.gw_tx.specs.KeptForms.{AreSlots, IsReadRequest}
 use Rattle.gw_tx.proofs.FormsKept.{transaction_kept}
 use Rattle.gw_engine.specs.declared.reading.ReadDatagram.{ReadDatagram}
 use Rattle.gw_engine.specs.Bursts.{Progress, Step, owned_by, reply_to, entry_for, key_of_request, over_reply, new_step, over_step, request_step, item_step, in_turn, message_step, datagram_step, start_of, burst_outcome}
@@ -62,38 +62,38 @@ own_slots : (r : Request) (p : Progress) → All IsSmall p.slots → AreSlots (o
 own_slots r p all = named_slots (owned_by r p).slots (subst (λ (l : List ℕ). All IsSmall l) (sym (owned_choices (slot_choices r) p.slots)) (All-take IsSmall (slot_choices r) p.slots all))
 
 module _ (s : Settings) (is_mid : IsMid s.mid) (address : IsAddress s.rules.media) where
-  new_read : (r : Request) (p : Progress) → IsAskedRequest r → IsSound s p → IsReplyMessage s.mid r.id.0 (reply_to s r p)
-  new_read r p asked h = reply_read s.mid s.rules r (owned_by r p) p.state.maps is_mid address (own_slots r p h.slots) asked h.maps
+  new_read : (r : Request) (p : Progress) → IsReadRequest r → IsSound s p → IsReplyMessage s.mid r.id.0 (reply_to s r p)
+  new_read r p requested h = reply_read s.mid s.rules r (owned_by r p) p.state.maps is_mid address (own_slots r p h.slots) requested h.maps
 
-  new_answered : (peer : ℕ) (from : List ℕ) (r : Request) (p : Progress) → IsAskedRequest r → IsSound s p → IsAnswered s (question_in peer (item.Request r)) (new_step s peer from r p)
-  new_answered peer from r p asked h = record {
-    answers = (record { peer = refl; text = new_read r p asked h }, tt);
+  new_answered : (peer : ℕ) (from : List ℕ) (r : Request) (p : Progress) → IsReadRequest r → IsSound s p → IsAnswered s (question_in peer (item.Request r)) (new_step s peer from r p)
+  new_answered peer from r p requested h = record {
+    answers = (record { peer = refl; text = new_read r p requested h }, tt);
     after = record {
-      maps = (transaction_kept s.rules address r (owned_by r p) p.state.maps (own_slots r p h.slots) asked h.maps).0;
-      replies = kept_more s.mid p.state.kept (entry_for from r (reply_to s r p)) h.replies (new_read r p asked h);
+      maps = (transaction_kept s.rules address r (owned_by r p) p.state.maps (own_slots r p h.slots) requested h.maps).0;
+      replies = kept_more s.mid p.state.kept (entry_for from r (reply_to s r p)) h.replies (new_read r p requested h);
       slots = All-drop IsSmall (slot_choices r) p.slots h.slots;
     };
   }
 
-  over_answered : (peer : ℕ) (r : Request) (p : Progress) → IsAskedRequest r → IsSound s p → IsAnswered s (question_in peer (item.Request r)) (over_step s peer r p)
-  over_answered peer r p asked h = record { answers = (record { peer = refl; text = reply_is s.mid (over_reply r) is_mid (asked.number, tt) }, tt); after = h }
+  over_answered : (peer : ℕ) (r : Request) (p : Progress) → IsReadRequest r → IsSound s p → IsAnswered s (question_in peer (item.Request r)) (over_step s peer r p)
+  over_answered peer r p requested h = record { answers = (record { peer = refl; text = reply_is s.mid (over_reply r) is_mid (requested.number, tt) }, tt); after = h }
 
-  request_answered : (peer : ℕ) (from : List ℕ) (r : Request) (p : Progress) (o : Option (List ℕ)) → IsAskedRequest r → IsSound s p → bytes_for (key_of_request from r) p.state.kept.pairs ≡ o → IsAnswered s (question_in peer (item.Request r)) (request_step s peer from r p o)
-  request_answered peer from r p (Some bytes) asked h e = record { answers = (record { peer = refl; text = kept_found s.mid (key_of_request from r) p.state.kept.pairs bytes h.replies e }, tt); after = h }
-  request_answered peer from r p None asked h e = by (nat_lt p.count most_new)
+  request_answered : (peer : ℕ) (from : List ℕ) (r : Request) (p : Progress) (o : Option (List ℕ)) → IsReadRequest r → IsSound s p → bytes_for (key_of_request from r) p.state.kept.pairs ≡ o → IsAnswered s (question_in peer (item.Request r)) (request_step s peer from r p o)
+  request_answered peer from r p (Some bytes) requested h e = record { answers = (record { peer = refl; text = kept_found s.mid (key_of_request from r) p.state.kept.pairs bytes h.replies e }, tt); after = h }
+  request_answered peer from r p None requested h e = by (nat_lt p.count most_new)
     where
       by : (b : Bool) → IsAnswered s (question_in peer (item.Request r)) (cond b (new_step s peer from r p) (over_step s peer r p))
-      by true = new_answered peer from r p asked h
-      by false = over_answered peer r p asked h
+      by true = new_answered peer from r p requested h
+      by false = over_answered peer r p requested h
 
   item_answered : (peer : ℕ) (from : List ℕ) (i : Item) (p : Progress) → IsItemInForm i → IsSound s p → IsAnswered s (question_in peer i) (item_step s peer from i p)
   unfolding item_step
-  item_answered peer from (item.Request r) p asked h = request_answered peer from r p (bytes_for (key_of_request from r) p.state.kept.pairs) asked h refl
-  item_answered peer from (item.Ack ranges) p asked h = record {
+  item_answered peer from (item.Request r) p requested h = request_answered peer from r p (bytes_for (key_of_request from r) p.state.kept.pairs) requested h refl
+  item_answered peer from (item.Ack ranges) p requested h = record {
     answers = tt;
     after = record { maps = h.maps; replies = All-filter (λ (e : Entry). not (is_named from ranges (key_of e))) (IsKeptReply s.mid) p.state.kept.pairs h.replies; slots = h.slots };
   }
-  item_answered peer from item.Ignored p asked h = record { answers = tt; after = h }
+  item_answered peer from item.Ignored p requested h = record { answers = tt; after = h }
 
   turn_answered : {X : Type 0} (step : X → Progress → Step) (ask : X → List Question) (Good : X → Type 0) → ((x : X) (p : Progress) → Good x → IsSound s p → IsAnswered s (ask x) (step x p)) → (xs : List X) (p : Progress) → All Good xs → IsSound s p → IsAnswered s (flat_map ask xs) (in_turn step xs p)
   unfolding in_turn
@@ -104,11 +104,11 @@ module _ (s : Settings) (is_mid : IsMid s.mid) (address : IsAddress s.rules.medi
       record { answers = zip_append (IsAnswerTo s.mid) (ask x) (flat_map ask xs) (step x p).answers (in_turn step xs (step x p).after).answers now.answers rest.answers; after = rest.after }
 
   message_answered : (peer : ℕ) (m : Result Message Code) (p : Progress) → IsMessageInForm m → IsSound s p → IsAnswered s (questions_in peer m) (message_step s peer m p)
-  message_answered peer (Ok m) p asked h = turn_answered (item_step s peer m.mid) (question_in peer) IsItemInForm (item_answered peer m.mid) m.items p asked h
-  message_answered peer (Err code) p asked h = record { answers = (record { peer = refl; text = fault_is_error s.mid code is_mid }, tt); after = h }
+  message_answered peer (Ok m) p requested h = turn_answered (item_step s peer m.mid) (question_in peer) IsItemInForm (item_answered peer m.mid) m.items p requested h
+  message_answered peer (Err code) p requested h = record { answers = (record { peer = refl; text = fault_is_error s.mid code is_mid }, tt); after = h }
 
   datagram_answered : (h : ReadDatagram) (p : Progress) → IsInForm h → IsSound s p → IsAnswered s (questions_in h.peer h.message) (datagram_step s h p)
-  datagram_answered h p asked sound = message_answered h.peer h.message p asked sound
+  datagram_answered h p requested sound = message_answered h.peer h.message p requested sound
 
 pub all_answered : (g : GatewayValue) (messages : List ReadDatagram) → IsWellFormed g.settings g.state → g.settings.slots ≤ 4096 → AreInForm messages → IsAnswered g.settings (questions messages) (burst_outcome g messages)
 unfolding burst_outcome

@@ -17,7 +17,7 @@ zip_from R (x ∷ xs) (y ∷ ys) len each = (each 0 x y (omega arith), zip_from 
 -- where each answer of the function is one on its job
 module _ {F J X : Type 0} (g : Shared F (Bor J × Unit {0}) X) (f : F) (R : J → X → Type 0) (call : (p : Bor J) (r : X) → g.post f (p, tt) r → R p.now r) where
   at_place : (jobs : List J) (i : ℕ) (d : J) (r : X) → GivesAt g f jobs i r → R (slice_index_or jobs i d) r
-  at_place jobs i d r a = subst (λ (j : J). R j r) (sym (a.shows d)) (call a.shown r a.call)
+  at_place jobs i d r a = subst (λ (j : J). R j r) (sym (a.shows d)) (call a.seen r a.call)
 
   pub side_by_side : (jobs : List J) (rs : List X) → GivesEach g f jobs rs → AllZip R jobs rs
   side_by_side jobs rs e = zip_from R jobs rs e.as_many (λ i d r h. at_place jobs i d (slice_index_or rs i r) (e.each i r h))

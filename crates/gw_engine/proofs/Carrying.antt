@@ -4,15 +4,15 @@ use Rattle.std.specs.Prelude.{◌||◌, OnOk, OnErr}
 use Rattle.std.specs.List.{list_any}
 use Rattle.gw_base.proofs.Booleans.{neither}
 use Rattle.gw_base.specs.declared.command_words.Rules.{Rules}
-use Rattle.gw_board.specs.Boards.{Seen, Handed, core_of, asked_of, begun_board, outcome_of, is_closed, AllClosed}
+use Rattle.gw_board.specs.Boards.{Seen, Handed, core_of, requested_in, begun_board, outcome_of, is_closed, AllClosed}
 use Rattle.gw_board.specs.Carried as board
 use Rattle.gw_board.specs.Core.{Standing, Pending, Opened, Closed, Place, pending}
 use Rattle.gw_board.specs.Jobs.{new_part}
 use Rattle.gw_board.specs.OpenJobs.{IsAnswer, IsSameBurst}
 use Rattle.gw_board.specs.Results.{is_open, NothingIsOpen, slots_of}
 use Rattle.gw_board.specs.Texts.{Text}
-use Rattle.gw_board.specs.declared.asked.Asked.{Asked}
-use Rattle.gw_board.specs.declared.manner.Manner.{Manner}
+use Rattle.gw_board.specs.declared.requested.BurstRequest.{BurstRequest}
+use Rattle.gw_board.specs.declared.profile.Profile.{Profile}
 use Rattle.gw_board.proofs.WaveJobs.{Reply}
 use Rattle.gw_kept.specs.declared.entry.Entry.{Entry}
 use Rattle.gw_reserve.specs.Owned.{paired}
@@ -29,28 +29,28 @@ use Rattle.gw_engine.specs.Phases.{sent_of, done_by, entry_of, entries_of}
 use Rattle.gw_engine.specs.Replies.{entries_with}
 
 -- the maps are those of the transactions
-pub board_maps : (manner : Manner) (jobs : List Asked) (m : Maps) → (board.carried manner jobs m).maps ≡ (done_by manner.rules jobs m).maps
+pub board_maps : (profile : Profile) (jobs : List BurstRequest) (m : Maps) → (board.carried profile jobs m).maps ≡ (done_by profile.rules jobs m).maps
 unfolding carried
-board_maps manner [] m = refl
-board_maps manner (j ∷ more) m = board_maps manner more (paired_transaction manner.rules j.request (paired j.request j.owned) m).maps
+board_maps profile [] m = refl
+board_maps profile (j ∷ more) m = board_maps profile more (paired_transaction profile.rules j.request (paired j.request j.owned) m).maps
 
 -- with the texts of their replies, each request has the pair that is kept of it
-pub board_entries : (manner : Manner) (jobs : List Asked) (m : Maps) → entries_with jobs (board.carried manner jobs m).answer ≡ entries_of manner.mid (map sent_of jobs) (done_by manner.rules jobs m).answer
+pub board_entries : (profile : Profile) (jobs : List BurstRequest) (m : Maps) → entries_with jobs (board.carried profile jobs m).answer ≡ entries_of profile.mid (map sent_of jobs) (done_by profile.rules jobs m).answer
 unfolding carried
-board_entries manner [] m = refl
-board_entries manner (j ∷ more) m =
-    let now = paired_transaction manner.rules j.request (paired j.request j.owned) m in
-    ap (λ (l : List Entry). entry_of manner.mid (sent_of j, now.answer) ∷ l) (board_entries manner more now.maps)
+board_entries profile [] m = refl
+board_entries profile (j ∷ more) m =
+    let now = paired_transaction profile.rules j.request (paired j.request j.owned) m in
+    ap (λ (l : List Entry). entry_of profile.mid (sent_of j, now.answer) ∷ l) (board_entries profile more now.maps)
 
 -- the pairs hold these texts
-pub texts_held : (manner : Manner) (jobs : List Asked) (m : Maps) → map (λ (e : Entry). e.bytes) (entries_with jobs (board.carried manner jobs m).answer) ≡ (board.carried manner jobs m).answer
-texts_held manner [] m = refl
-texts_held manner (j ∷ more) m =
-    let now = board.done manner j m in
-    ap (λ (l : List Text). now.answer ∷ l) (texts_held manner more now.maps)
+pub texts_held : (profile : Profile) (jobs : List BurstRequest) (m : Maps) → map (λ (e : Entry). e.bytes) (entries_with jobs (board.carried profile jobs m).answer) ≡ (board.carried profile jobs m).answer
+texts_held profile [] m = refl
+texts_held profile (j ∷ more) m =
+    let now = board.done profile j m in
+    ap (λ (l : List Text). now.answer ∷ l) (texts_held profile more now.maps)
 
 -- well-formed tables stay so
-pub stay_whole : (rules : Rules) (jobs : List Asked) (m : Maps) → AreWellFormed rules.members m → AreUnused m [] (slots_of jobs) → AreWellFormed rules.members (done_by rules jobs m).maps
+pub stay_whole : (rules : Rules) (jobs : List BurstRequest) (m : Maps) → AreWellFormed rules.members m → AreUnused m [] (slots_of jobs) → AreWellFormed rules.members (done_by rules jobs m).maps
 unfolding carried
 stay_whole rules [] m w u = w
 stay_whole rules (j ∷ more) m w u =
@@ -60,11 +60,11 @@ stay_whole rules (j ∷ more) m w u =
 
 -- ---- pairs, one after another
 
-pub none_left : (jobs : List Asked) → entries_with jobs [] ≡ []
+pub none_left : (jobs : List BurstRequest) → entries_with jobs [] ≡ []
 none_left [] = refl
 none_left (j ∷ more) = refl
 
-pub one_text : (jobs : List Asked) (n : ℕ) (j : Asked) (t : Text) (texts rest : List Text) (e : Entry) (entries more : List Entry) → n < length jobs → j ≡ get_or jobs n j → texts ≡ t ∷ rest → e ≡ record { mid = j.mid; id = j.request.id; bytes = t } → more ≡ entries ++ e ∷ []
+pub one_text : (jobs : List BurstRequest) (n : ℕ) (j : BurstRequest) (t : Text) (texts rest : List Text) (e : Entry) (entries more : List Entry) → n < length jobs → j ≡ get_or jobs n j → texts ≡ t ∷ rest → e ≡ record { mid = j.mid; id = j.request.id; bytes = t } → more ≡ entries ++ e ∷ []
     → more ++ entries_with (drop (n + 1) jobs) rest ≡ entries ++ entries_with (drop n jobs) texts
 one_text jobs n j t texts rest e entries more h is split pair pushed =
     ap (λ (l : List Entry). l ++ entries_with (drop (n + 1) jobs) rest) pushed
@@ -80,17 +80,17 @@ both_parts h (Err e) p q = tt
 
 -- ---- a board from its start to its end
 
-pending_shut : (jobs : List Asked) → list_any (λ (p : Place). is_open p.standing) (map pending jobs) ≡ false
+pending_shut : (jobs : List BurstRequest) → list_any (λ (p : Place). is_open p.standing) (map pending jobs) ≡ false
 pending_shut [] = refl
 pending_shut (j ∷ more) = pending_shut more
 
-asked_pending : (jobs : List Asked) → asked_of (map pending jobs) ≡ jobs
+asked_pending : (jobs : List BurstRequest) → requested_in (map pending jobs) ≡ jobs
 asked_pending [] = refl
-asked_pending (j ∷ more) = ap (λ (l : List Asked). j ∷ l) (asked_pending more)
+asked_pending (j ∷ more) = ap (λ (l : List BurstRequest). j ∷ l) (asked_pending more)
 
-pub length_carried : (manner : Manner) (jobs : List Asked) (m : Maps) → length (board.carried manner jobs m).answer ≡ length jobs
-length_carried manner [] m = refl
-length_carried manner (j ∷ more) m = let rest : length (board.carried manner more (board.done manner j m).maps).answer ≡ length more = length_carried manner more (board.done manner j m).maps in omega (arith, rest)
+pub length_carried : (profile : Profile) (jobs : List BurstRequest) (m : Maps) → length (board.carried profile jobs m).answer ≡ length jobs
+length_carried profile [] m = refl
+length_carried profile (j ∷ more) m = let rest : length (board.carried profile more (board.done profile j m).maps).answer ≡ length more = length_carried profile more (board.done profile j m).maps in omega (arith, rest)
 
 shut_if_closed : (x : Standing) → not (is_closed x) ≡ false → is_open x ≡ false
 shut_if_closed Pending h = refl
@@ -107,17 +107,17 @@ closed_shut (p ∷ ps) h =
 pub none_open : (b : Seen) → AllClosed b.places → NothingIsOpen (core_of b)
 none_open b h = closed_shut b.places h
 
-module _ (manner : Manner) (jobs : List Asked) (s : Stored) (b : Seen) (begun : b ≡ begun_board manner jobs s) where
+module _ (profile : Profile) (jobs : List BurstRequest) (s : Stored) (b : Seen) (begun : b ≡ begun_board profile jobs s) where
   pub none_yet : NothingIsOpen (core_of b)
   none_yet = ap (λ (x : Seen). list_any (λ (p : Place). is_open p.standing) x.places) begun ∙ pending_shut jobs
 
   -- whatever was opened and closed since
-  pub comes_to : (d : Seen) → IsSameBurst b d → board.carried d.manner (asked_of d.places) (maps_of d.start) ≡ board.carried manner jobs (maps_of s)
+  pub comes_to : (d : Seen) → IsSameBurst b d → board.carried d.profile (requested_in d.places) (maps_of d.start) ≡ board.carried profile jobs (maps_of s)
   comes_to d same =
-      let manners : d.manner ≡ manner = same.manner ∙ ap (λ (x : Seen). x.manner) begun in
-      let asked : asked_of d.places ≡ jobs = same.asked ∙ ap (λ (x : Seen). asked_of x.places) begun ∙ asked_pending jobs in
+      let manners : d.profile ≡ profile = same.profile ∙ ap (λ (x : Seen). x.profile) begun in
+      let requested : requested_in d.places ≡ jobs = same.requested ∙ ap (λ (x : Seen). requested_in x.places) begun ∙ asked_pending jobs in
       let start : d.start ≡ s = same.start ∙ ap (λ (x : Seen). x.start) begun in
-      λ i. board.carried (manners i) (asked i) (maps_of (start i))
+      λ i. board.carried (manners i) (requested i) (maps_of (start i))
 
 pub on_err : {T E P : Type 0} (r : Result T E) → P → OnErr r P
 on_err (Ok x) p = tt

@@ -7,7 +7,7 @@ use Rattle.gw_msg.specs.Grammar.{SpellsItem, SpellsBody}
 use Rattle.gw_msg.specs.declared.message.Item.{Item}
 use Rattle.gw_msg.specs.declared.message.Item.TheVariants as item
 use Rattle.gw_msg.specs.declared.message.Message.{Message}
-use Rattle.gw_tx.proofs.Asked.{request_asked}
+use Rattle.gw_tx.proofs.Requested.{request_asked}
 use Rattle.gw_engine.specs.declared.datagram.Datagram.{Datagram}
 use Rattle.gw_engine.specs.declared.reading.ReadDatagram.{ReadDatagram}
 use Rattle.gw_engine.specs.Bursts.{IsMessageOf, IsReadAs}

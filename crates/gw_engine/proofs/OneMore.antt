@@ -1,4 +1,4 @@
--- What was messages of the datagrams so far, and of one more.
+-- A relation between two lists, item by item, so far and with one item more of each.
 use Rattle.std.proofs.Common.{◌≡◌, ℕ, ◌+◌, ◌<◌, List, [], ◌∷◌, ◌++◌, length, get_or, take, sym, ap, subst, ◌∙◌}
 use Rattle.std.specs.List.{AllZip}
 use Rattle.std.proofs.lemmas.List.{take_more}

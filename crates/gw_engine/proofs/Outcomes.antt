@@ -20,7 +20,7 @@ use Rattle.gw_engine.specs.declared.items.BurstItem.{BurstItem}
 use Rattle.gw_engine.specs.declared.datagram.Datagram.{Datagram}
 use Rattle.gw_engine.specs.declared.reading.ReadDatagram.{ReadDatagram}
 use Rattle.gw_board.specs.Results.{slots_of}
-use Rattle.gw_board.specs.declared.asked.Asked.{Asked}
+use Rattle.gw_board.specs.declared.requested.BurstRequest.{BurstRequest}
 use Rattle.gw_engine.specs.Bursts.{cursors_of, burst_outcome}
 use Rattle.gw_engine.specs.Carried.{carried}
 use Rattle.gw_engine.specs.Forms.{AreInForm}
@@ -33,7 +33,7 @@ use Rattle.gw_engine.proofs.Phases.{phased_answers, phased_state, phased_new}
 
 -- ---- what jobs own is unused at the burst's start
 
-pub jobs_unused : (g : GatewayValue) (new : List Sent) (jobs : List Asked) → AreJobs new (ids_in g new) jobs → IsWellFormed g.settings g.state → g.settings.slots ≤ 4096 → AreUnused g.state.maps [] (slots_of jobs)
+pub jobs_unused : (g : GatewayValue) (new : List Sent) (jobs : List BurstRequest) → AreJobs new (ids_in g new) jobs → IsWellFormed g.settings g.state → g.settings.slots ≤ 4096 → AreUnused g.state.maps [] (slots_of jobs)
 unfolding owners
 jobs_unused g new jobs are w small =
     let m = g.state.maps in
@@ -44,7 +44,7 @@ jobs_unused g new jobs are w small =
 
 -- ---- what the phases gave
 
-pub record ComesOf (g : GatewayValue) (messages : List ReadDatagram) (items : List BurstItem) (jobs : List Asked) (cursors : Cursors) (m : Maps) (turns : List Turn) (entries : List Entry) (answers : List Datagram) : Type 0 where
+pub record ComesOf (g : GatewayValue) (messages : List ReadDatagram) (items : List BurstItem) (jobs : List BurstRequest) (cursors : Cursors) (m : Maps) (turns : List Turn) (entries : List Entry) (answers : List Datagram) : Type 0 where
   pub items_are : items ≡ table_of g messages
   pub jobs_are : AreJobs (new_of g messages) (ids_in g (new_of g messages)) jobs
   pub cursors_are : cursors ≡ cursors_behind g messages
@@ -59,7 +59,7 @@ pub record ComesOf (g : GatewayValue) (messages : List ReadDatagram) (items : Li
 abbrev new_entries : GatewayValue → List ReadDatagram → List Entry
 new_entries g messages = entries_of g.settings.mid (new_of g messages) (carried g.settings.rules (paired_requests (new_of g messages) (ids_in g (new_of g messages))) g.state.maps).answer
 
-pub outcome : (g : GatewayValue) (messages : List ReadDatagram) (items : List BurstItem) (jobs : List Asked) (cursors : Cursors) (m : Maps) (turns : List Turn) (entries : List Entry) (answers : List Datagram) → IsWellFormed g.settings g.state → g.settings.slots ≤ 4096 → AreInForm messages → ComesOf g messages items jobs cursors m turns entries answers
+pub outcome : (g : GatewayValue) (messages : List ReadDatagram) (items : List BurstItem) (jobs : List BurstRequest) (cursors : Cursors) (m : Maps) (turns : List Turn) (entries : List Entry) (answers : List Datagram) → IsWellFormed g.settings g.state → g.settings.slots ≤ 4096 → AreInForm messages → ComesOf g messages items jobs cursors m turns entries answers
     → IsOutcome g messages answers m cursors (changes_of turns entries)
 unfolding phased
 outcome g messages items jobs cursors m turns entries answers w small forms c =
@@ -93,7 +93,7 @@ outcome g messages items jobs cursors m turns entries answers w small forms c =
     }
 
 -- the same of what is kept and answered of jobs
-pub outcome_of_jobs : (g : GatewayValue) (messages : List ReadDatagram) (items : List BurstItem) (jobs : List Asked) (cursors : Cursors) (turns : List Turn) → IsWellFormed g.settings g.state → g.settings.slots ≤ 4096 → AreInForm messages
+pub outcome_of_jobs : (g : GatewayValue) (messages : List ReadDatagram) (items : List BurstItem) (jobs : List BurstRequest) (cursors : Cursors) (turns : List Turn) → IsWellFormed g.settings g.state → g.settings.slots ≤ 4096 → AreInForm messages
     → items ≡ table_of g messages → AreJobs (new_of g messages) (ids_in g (new_of g messages)) jobs → cursors ≡ cursors_behind g messages → AreWithin g.settings.contexts g.settings.slots cursors → turns ≡ turns_of g messages
     → IsOutcome g messages (answers_of g.settings.mid g.state.kept (texts_of (kept_of g jobs)) items) (done_by g.settings.rules jobs g.state.maps).maps cursors (changes_of turns (kept_of g jobs))
 outcome_of_jobs g messages items jobs cursors turns w small forms items_are jobs_are cursors_are within turns_are =

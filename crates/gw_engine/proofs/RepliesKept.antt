@@ -16,14 +16,14 @@ use Rattle.gw_reply.specs.Messages.{reply_text}
 use Rattle.gw_reply_law.specs.Spellings.{IsReplyMessage}
 use Rattle.gw_reply_law.proofs.PartFits.{reply_is}
 use Rattle.gw_table.specs.Maps.{Maps}
-use Rattle.gw_tx.specs.KeptForms.{AreSlots, IsAskedRequest}
+use Rattle.gw_tx.specs.KeptForms.{AreSlots, IsReadRequest}
 use Rattle.gw_tx.specs.Transactions.{transaction}
 use Rattle.gw_tx.proofs.FormsKept.{transaction_kept, transaction_id}
 use Rattle.gw_engine.specs.State.{IsKeptReply}
 
 -- the reply to a request that was carried out
-pub reply_read : (mid : List ℕ) (rules : Rules) (r : Request) (ids : Ids) (m : Maps) → IsMid mid → IsAddress rules.media → AreSlots ids → IsAskedRequest r → AreKept m → IsReplyMessage mid r.id.0 (reply_text mid (transaction rules r ids m).answer)
-reply_read mid rules r ids m is address slots asked k = transaction_id rules mid r ids m (reply_is mid (transaction rules r ids m).answer is (transaction_kept rules address r ids m slots asked k).1)
+pub reply_read : (mid : List ℕ) (rules : Rules) (r : Request) (ids : Ids) (m : Maps) → IsMid mid → IsAddress rules.media → AreSlots ids → IsReadRequest r → AreKept m → IsReplyMessage mid r.id.0 (reply_text mid (transaction rules r ids m).answer)
+reply_read mid rules r ids m is address slots requested k = transaction_id rules mid r ids m (reply_is mid (transaction rules r ids m).answer is (transaction_kept rules address r ids m slots requested k).1)
 
 module _ (mid : List ℕ) where
   -- one more is kept

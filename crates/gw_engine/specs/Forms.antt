@@ -5,12 +5,12 @@ use Rattle.gw_base.specs.declared.code.Code.{Code}
 use Rattle.gw_msg.specs.declared.message.Item.{Item}
 use Rattle.gw_msg.specs.declared.message.Item.TheVariants as item
 use Rattle.gw_msg.specs.declared.message.Message.{Message}
-use Rattle.gw_tx.specs.KeptForms.{IsAskedRequest}
+use Rattle.gw_tx.specs.KeptForms.{IsReadRequest}
 use Rattle.gw_engine.specs.declared.reading.ReadDatagram.{ReadDatagram}
 
 -- what a request names and describes has its forms
 abbrev pub IsItemInForm : Item → Type 0
-IsItemInForm (item.Request r) = IsAskedRequest r
+IsItemInForm (item.Request r) = IsReadRequest r
 IsItemInForm (item.Ack ranges) = Unit {0}
 IsItemInForm item.Ignored = Unit {0}
 

@@ -1,6 +1,6 @@
 -- What one new request owns of what those before it left (own).
 use Rattle.std.specs.Prelude.{◌≡◌, List, [], ◌∷◌, ◌++◌, drop, take, Option, None, Some}
-use Rattle.gw_board.specs.declared.asked.Asked.{Asked}
+use Rattle.gw_board.specs.declared.requested.BurstRequest.{BurstRequest}
 use Rattle.gw_msg.specs.declared.message.Request.{Request}
 use Rattle.gw_reserve.specs.declared.owned.Owned.{Owned}
 use Rattle.gw_reserve.specs.Owned.{paired, with_ids}
@@ -20,6 +20,6 @@ pub record IsOwned (m : Maps) (r : Request) (v w : Reserving) (o : Owned) : Type
   pub cursors : w.cursors ≡ new_cursors v.cursors (ids_of r (numbers_left m v) (slots_left m v) ∷ [])
 
 -- A new request has one more job. Without one nothing changes.
-abbrev pub IsReserved : Maps → Option Sent → (v w : Reserving) → (jobs more : List Asked) → Type 0
+abbrev pub IsReserved : Maps → Option Sent → (v w : Reserving) → (jobs more : List BurstRequest) → Type 0
 IsReserved m None v w jobs more = (w ≡ v) × (more ≡ jobs)
-IsReserved m (Some x) v w jobs more = (job : Asked) × (sent_of job ≡ x) × IsOwned m x.request v w job.owned × (more ≡ jobs ++ job ∷ [])
+IsReserved m (Some x) v w jobs more = (job : BurstRequest) × (sent_of job ≡ x) × IsOwned m x.request v w job.owned × (more ≡ jobs ++ job ∷ [])

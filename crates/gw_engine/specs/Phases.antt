@@ -8,7 +8,7 @@ use Rattle.gw_base.specs.declared.code.Code.TheVariants.{InsufficientResources}
 use Rattle.gw_base.specs.declared.command_words.Rules.{Rules}
 use Rattle.gw_base.specs.declared.ids.TxId.{TxId}
 use Rattle.gw_board.specs.Results.{slots_of}
-use Rattle.gw_board.specs.declared.asked.Asked.{Asked}
+use Rattle.gw_board.specs.declared.requested.BurstRequest.{BurstRequest}
 use Rattle.gw_kept.specs.Classes.{classes_of}
 use Rattle.gw_kept.specs.Changes.{Change, changes_of, kept_after, AreNew}
 use Rattle.gw_kept.specs.Pairs.{KeptList, bytes_at}
@@ -134,21 +134,21 @@ paired_requests new ids = map paired_request (zip new ids)
 
 -- ---- jobs
 
-abbrev pub sent_of : Asked → Sent
+abbrev pub sent_of : BurstRequest → Sent
 sent_of j = record { mid = j.mid; request = j.request }
 
 -- a job, whose entries pair its request
-abbrev pub paired_job : Asked → Request × List OwnedAction
+abbrev pub paired_job : BurstRequest → Request × List OwnedAction
 paired_job j = (j.request, paired j.request j.owned)
 
 -- Jobs for these requests, each paired with what it owns, and with its slots and no others.
-pub record AreJobs (new : List Sent) (ids : List Ids) (jobs : List Asked) : Type 0 where
+pub record AreJobs (new : List Sent) (ids : List Ids) (jobs : List BurstRequest) : Type 0 where
   pub sent : map sent_of jobs ≡ new
   pub pairs : map paired_job jobs ≡ paired_requests new ids
   pub slots : slots_of jobs ≡ owned_slots ids
 
 -- their transactions, one after another
-abbrev pub done_by : Rules → List Asked → Maps → Outcome (List TxReply)
+abbrev pub done_by : Rules → List BurstRequest → Maps → Outcome (List TxReply)
 done_by rules jobs m = carried rules (map paired_job jobs) m
 
 -- ---- what is kept, and what is answered
@@ -215,7 +215,7 @@ abbrev pub cursors_behind : GatewayValue → List ReadDatagram → Cursors
 cursors_behind g messages = new_cursors (cursors_of g.state) (ids_in g (new_of g messages))
 
 -- what is kept of jobs that are executed on the tables of the gateway
-abbrev pub kept_of : GatewayValue → List Asked → List Entry
+abbrev pub kept_of : GatewayValue → List BurstRequest → List Entry
 kept_of g jobs = entries_of g.settings.mid (map sent_of jobs) (done_by g.settings.rules jobs g.state.maps).answer
 
 -- what comes of the phases

@@ -56,7 +56,7 @@ fn errors_in(items: &[BurstItem<'_, '_>]) -> usize
 }
 
 impl BurstCounts {
-    /// The counts of a burst: what it requests, and the class of each.
+    /// The counts of a burst, from its items and the class of each.
     pub(crate) fn of(items: &[BurstItem<'_, '_>], classes: &[Class]) -> BurstCounts
         ensures { result ≡ counts_in items.now classes.now }
     {

@@ -6,8 +6,8 @@ ghost use Rattle.gw_engine.specs.Phases.{items_from, items_of, new_for, point_of
 
 use crate::reading::ReadDatagram;
 use gw_base::{Code, Items, NoMemory};
-use gw_board::Lent;
-use gw_kept::{Class, LentKey, Point, Ranges, Removal, Turn};
+use gw_board::RequestRef;
+use gw_kept::{BorrowedKey, Class, Point, Ranges, Removal, Turn};
 use gw_msg::{Item, Sender};
 use std::alloc::Global;
 
@@ -15,7 +15,7 @@ use std::alloc::Global;
 #[derive(Drop)]
 pub(crate) struct Sent<'h, 'a> {
     pub(crate) mid: Sender<'a>,
-    pub(crate) request: Lent<'h, 'a>,
+    pub(crate) request: RequestRef<'h, 'a>,
 }
 
 /// What was sent.
@@ -48,7 +48,7 @@ impl<'h, 'a: 'h> BurstItem<'h, 'a> {
     {
         match &self.content {
             Content::Request(sent) => {
-                Point::Request(LentKey::new(sent.mid.again(), sent.request.id()))
+                Point::Request(BorrowedKey::new(sent.mid.again(), sent.request.id()))
             }
             Content::Ack(removal) => Point::Ack(removal.again()),
             Content::Fault(_) => Point::Nothing,
@@ -117,7 +117,7 @@ fn push_items<'h, 'a>(
         let content = match part {
             Item::Request(request) => Content::Request(Sent {
                 mid: mid.again(),
-                request: Lent::new(request),
+                request: RequestRef::new(request),
             }),
             Item::Ack(ranges) => Content::Ack(Removal {
                 mid: mid.again(),

@@ -10,7 +10,7 @@ use crate::gateway::Gateway;
 use crate::items::{BurstItem, Sent};
 use bumpalo::Bump;
 use gw_base::{Items, NoMemory};
-use gw_board::Asked;
+use gw_board::BurstRequest;
 use gw_reserve::{Cursors, Reservation};
 use std::alloc::Global;
 
@@ -18,7 +18,7 @@ use std::alloc::Global;
 /// begins.
 #[derive(Drop)]
 pub(crate) struct Reserved<'h, 'a> {
-    pub(crate) jobs: Items<Asked<'h, 'a>>,
+    pub(crate) jobs: Items<BurstRequest<'h, 'a>>,
     pub(crate) cursors: Cursors,
 }
 
@@ -29,7 +29,7 @@ impl Gateway {
         alloc: Global,
         reservation: &mut Reservation,
         sent: &Sent<'h, 'a>,
-    ) -> Result<Asked<'h, 'a>, NoMemory>
+    ) -> Result<BurstRequest<'h, 'a>, NoMemory>
         ensures owned { IfOk result (λ job. IsOwned self.now.state.maps sent.now.request reservation.old reservation.new job.owned) }
         ensures sent { IfOk result (λ job. sent_of job ≡ sent.now) }
         ensures contexts { OnOk result (reservation.new.most_contexts ≡ reservation.old.most_contexts) }
@@ -38,7 +38,7 @@ impl Gateway {
         let scratch = Bump::new(alloc);
         let tree = sent.request.tree(&scratch)?;
         let owned = reservation.own(alloc, &self.tables, tree)?;
-        Ok(Asked {
+        Ok(BurstRequest {
             mid: sent.mid.again(),
             request: sent.request.again(),
             owned,
@@ -50,7 +50,7 @@ impl Gateway {
         &self,
         alloc: Global,
         reservation: &mut Reservation,
-        jobs: &mut Items<Asked<'h, 'a>>,
+        jobs: &mut Items<BurstRequest<'h, 'a>>,
         item: &BurstItem<'h, 'a>,
     ) -> Result<(), NoMemory>
         ensures jobs { OnOk result (IsReserved self.now.state.maps (new_for item.now.content item.now.class) reservation.old reservation.new jobs.old jobs.new) }

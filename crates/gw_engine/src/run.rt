@@ -11,7 +11,7 @@ ghost use Rattle.gw_engine.specs.Phases.{table_of, new_of, ids_in, turns_of, Are
 ghost use Rattle.gw_engine.specs.Readable.{CanBeRead};
 ghost use Rattle.gw_engine.specs.State.{IsWellFormed};
 
-use crate::carry::{Done, carried_out};
+use crate::carry::{Done, executed_burst};
 use crate::classify::classify;
 use crate::counts::BurstCounts;
 use crate::datagram::Datagram;
@@ -20,7 +20,7 @@ use crate::items::{BurstItem, items_of, turns_of};
 use crate::reading::{ReadDatagram, arena_for, keeps_trees, read_burst};
 use crate::workers::Workers;
 use gw_base::{Items, NoMemory};
-use gw_board::{Asked, Manner};
+use gw_board::{BurstRequest, Profile};
 use gw_draw::Gate;
 use gw_kept::Turn;
 use gw_reserve::Cursors;
@@ -33,7 +33,7 @@ use std::thread::Threads;
 #[derive(Drop)]
 struct Plan<'h, 'a> {
     items: Vec<BurstItem<'h, 'a>>,
-    jobs: Items<Asked<'h, 'a>>,
+    jobs: Items<BurstRequest<'h, 'a>>,
     cursors: Cursors,
     turns: Items<Turn<'h>>,
     counts: BurstCounts,
@@ -97,7 +97,7 @@ impl Gateway {
         ensures err { OnErr result (self.new ≡ self.old) }
         ensures well_formed { IsWellFormed self.new.settings self.new.state }
     {
-        let manner = Manner {
+        let profile = Profile {
             rules: self.rules,
             mid: self.mid,
         };
@@ -109,11 +109,11 @@ impl Gateway {
             counts: _,
         } = plan;
         let tables = mem::replace(&mut self.tables, Tables::new(alloc));
-        match carried_out(
+        match executed_burst(
             workers,
             alloc,
             tables,
-            manner,
+            profile,
             &self.kept,
             items.as_slice(),
             jobs.as_slice(),
@@ -145,7 +145,7 @@ impl Gateway {
     /// With one worker each request is executed by itself, in order of arrival, and passes the gate with number 0.
     /// With more, requests are executed in waves, each of them all whose footprints meet no earlier one's that waits;
     /// one that is whole-table is a wave by itself. The tables are not copied: a request changes them in place, or, in
-    /// a wave, in a copy of the entries that it may claim, which leave the tables for that time; and the originals are
+    /// a wave, in a copy of the entries that it may claim, which leave the tables for that time; and the undo log is
     /// kept until the burst is over.
     ///
     /// The requests of a wave are executed by so many workers, 1 to 64, in threads; the caller is one of them and

@@ -81,14 +81,14 @@ action_same : (a : OwnedAction) (m n : Maps) → Agree (action_footprint a m) m 
 action_same a m n g =
     let all : List Key = keys_if (is_for_each a.sent.ctx) (every_key m) in
     let one : List Key = place_key (one_context a.sent.ctx a.number) in
-    let asked : List Key = flat_map (keys_in_action a.sent.ctx a.number m) a.commands in
+    let requested : List Key = flat_map (keys_in_action a.sent.ctx a.number m) a.commands in
     let links : List Key = keys_of_links a m in
-    let named : Agree (all ++ one ++ asked) m n = agree_left (all ++ one ++ asked) links m n g in
-    let front : Agree (all ++ one) m n = agree_left (all ++ one) asked m n named in
+    let named : Agree (all ++ one ++ requested) m n = agree_left (all ++ one ++ requested) links m n g in
+    let front : Agree (all ++ one) m n = agree_left (all ++ one) requested m n named in
     let there : SameContext (one_context a.sent.ctx a.number) m n = same_context (one_context a.sent.ctx a.number) m n (agree_right all one m n front) in
     let x : keys_if (is_for_each a.sent.ctx) (every_key n) ≡ all = every_same (is_for_each a.sent.ctx) m n (agree_left all one m n front) in
-    let y : flat_map (keys_in_action a.sent.ctx a.number n) a.commands ≡ asked = commands_same a.sent.ctx a.number m n there a.commands (agree_right (all ++ one) asked m n named) in
-    let z : keys_of_links a n ≡ links = links_same m n (linked_names a.sent.props) (agree_right (all ++ one ++ asked) links m n g) in
+    let y : flat_map (keys_in_action a.sent.ctx a.number n) a.commands ≡ requested = commands_same a.sent.ctx a.number m n there a.commands (agree_right (all ++ one) requested m n named) in
+    let z : keys_of_links a n ≡ links = links_same m n (linked_names a.sent.props) (agree_right (all ++ one ++ requested) links m n g) in
     λ i. ((x i ++ one) ++ y i) ++ z i
 
 pub footprint_same : (owners : List OwnedAction) (m n : Maps) → Agree (footprint_of owners m) m n → footprint_of owners n ≡ footprint_of owners m

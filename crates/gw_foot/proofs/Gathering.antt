@@ -12,11 +12,11 @@ use Rattle.gw_base.specs.Keys.{has, same_key}
 use Rattle.gw_msg.specs.declared.message.Action.{Action}
 use Rattle.gw_msg.specs.declared.message.Command.{Command}
 use Rattle.gw_table.specs.Maps.{Maps}
-use Rattle.gw_refusal.specs.Asked.{is_wildcard}
+use Rattle.gw_refusal.specs.Requested.{is_wildcard}
 use Rattle.gw_cmd.specs.Keys.{every_key, keys_if, place_key}
 use Rattle.gw_reserve.specs.Owned.{OwnedAction, first_owned, later_owned, paired_action, paired_actions, paired_commands}
 use Rattle.gw_tx.specs.Footprints.{is_for_each, one_context, stands_for_all, keys_of_members, named_keys, keys_in_action, keys_of_links, action_footprint, footprint_of}
-use Rattle.gw_foot.specs.Gathered.{asks_all, has_wildcard, own_keys, gathered, all_gathered}
+use Rattle.gw_foot.specs.Gathered.{spans_all, has_wildcard, own_keys, gathered, all_gathered}
 
 -- ---- either of two tests
 
@@ -97,23 +97,23 @@ module _ (k : Key) where
         ∙ three (stands_for_all sent c) (list_any (stands_for_all sent) cs) every (is_wildcard c.term) (has_wildcard cs) (members sent owned) (has (own_keys m p) k) (has (flat_map (own_keys m) rest) k)
         ∙ ap (λ z. (list_any (stands_for_all sent) (c ∷ cs) && every) || ((has_wildcard (c ∷ cs) && members sent owned) || z)) (sym (has_both (own_keys m p) (flat_map (own_keys m) rest)))
 
-    action_split : (number : Option CtxNum) (slots : List (Option ℕ)) (a : Action) → has (action_footprint (paired_action number slots a) m) k ≡ ((asks_all a && every) || has (gathered m (paired_action number slots a)) k)
+    action_split : (number : Option CtxNum) (slots : List (Option ℕ)) (a : Action) → has (action_footprint (paired_action number slots a) m) k ≡ ((spans_all a && every) || has (gathered m (paired_action number slots a)) k)
     action_split number slots a =
         let each : Bool = is_for_each a.ctx in
         let place : List Key = place_key (one_context a.ctx number) in
         let those : List Key = keys_of_members (one_context a.ctx number) m in
         let ps : List (Option ℕ × Command) = paired_commands slots a.commands in
-        let asked : List Key = flat_map (keys_in_action a.ctx number m) ps in
+        let requested : List Key = flat_map (keys_in_action a.ctx number m) ps in
         let own : List Key = flat_map (own_keys m) ps in
         let links : List Key = keys_of_links (paired_action number slots a) m in
         let some : Bool = list_any (stands_for_all a.ctx) a.commands in
         let wild : Bool = has_wildcard a.commands in
         let rest : Bool = (wild && has those k) || has own k in
         let front : List Key = place ++ keys_if wild those ++ own in
-        has_both (keys_if each (every_key m) ++ place ++ asked) links
+        has_both (keys_if each (every_key m) ++ place ++ requested) links
         ∙ ap (λ z. z || has links k)
-        (has_both (keys_if each (every_key m) ++ place) asked
-        ∙ ap (λ z. z || has asked k) (has_both (keys_if each (every_key m)) place ∙ ap (λ z. z || has place k) (has_if each (every_key m)))
+        (has_both (keys_if each (every_key m) ++ place) requested
+        ∙ ap (λ z. z || has requested k) (has_both (keys_if each (every_key m)) place ∙ ap (λ z. z || has place k) (has_if each (every_key m)))
         ∙ ap (λ z. ((each && every) || has place k) || z) (commands_split a.ctx number slots a.commands)
         ∙ two each some every (has place k) rest
         ∙ ap (λ z. ((each || some) && every) || z)
@@ -121,25 +121,25 @@ module _ (k : Key) where
         ∙ or_assoc ((each || some) && every) (has front k) (has links k)
         ∙ ap (λ z. ((each || some) && every) || z) (sym (has_both front links))
 
-    all_split : (numbers : List (Option CtxNum)) (slots : List (Option ℕ)) (asked : List Action)
-        → has (footprint_of (paired_actions numbers slots asked) m) k ≡ ((list_any asks_all asked && every) || has (all_gathered m (paired_actions numbers slots asked)) k)
+    all_split : (numbers : List (Option CtxNum)) (slots : List (Option ℕ)) (requested : List Action)
+        → has (footprint_of (paired_actions numbers slots requested) m) k ≡ ((list_any spans_all requested && every) || has (all_gathered m (paired_actions numbers slots requested)) k)
     all_split numbers slots [] = refl
     all_split numbers slots (a ∷ more) =
         let pair : OwnedAction = paired_action (first_owned numbers) slots a in
         let rest : List OwnedAction = paired_actions (later_owned numbers) (drop (length a.commands) slots) more in
         has_both (action_footprint pair m) (footprint_of rest m)
         ∙ ap (λ z. z || has (footprint_of rest m) k) (action_split (first_owned numbers) slots a)
-        ∙ ap (λ z. ((asks_all a && every) || has (gathered m pair) k) || z) (all_split (later_owned numbers) (drop (length a.commands) slots) more)
-        ∙ two (asks_all a) (list_any asks_all more) every (has (gathered m pair) k) (has (all_gathered m rest) k)
-        ∙ ap (λ z. (list_any asks_all (a ∷ more) && every) || z) (sym (has_both (gathered m pair) (all_gathered m rest)))
+        ∙ ap (λ z. ((spans_all a && every) || has (gathered m pair) k) || z) (all_split (later_owned numbers) (drop (length a.commands) slots) more)
+        ∙ two (spans_all a) (list_any spans_all more) every (has (gathered m pair) k) (has (all_gathered m rest) k)
+        ∙ ap (λ z. (list_any spans_all (a ∷ more) && every) || z) (sym (has_both (gathered m pair) (all_gathered m rest)))
 
 -- ---- the same keys
 
-pub is_footprint : (m : Maps) (numbers : List (Option CtxNum)) (slots : List (Option ℕ)) (asked : List Action) (start : List Key) → start ≡ keys_if (list_any asks_all asked) (every_key m)
-    → (k : Key) → has (start ++ all_gathered m (paired_actions numbers slots asked)) k ≡ has (footprint_of (paired_actions numbers slots asked) m) k
-is_footprint m numbers slots asked start e k =
-    let rest : List Key = all_gathered m (paired_actions numbers slots asked) in
-    has_both k start rest ∙ ap (λ z. z || has rest k) (ap (λ l. has l k) e ∙ has_if k (list_any asks_all asked) (every_key m)) ∙ sym (all_split k m numbers slots asked)
+pub is_footprint : (m : Maps) (numbers : List (Option CtxNum)) (slots : List (Option ℕ)) (requested : List Action) (start : List Key) → start ≡ keys_if (list_any spans_all requested) (every_key m)
+    → (k : Key) → has (start ++ all_gathered m (paired_actions numbers slots requested)) k ≡ has (footprint_of (paired_actions numbers slots requested) m) k
+is_footprint m numbers slots requested start e k =
+    let rest : List Key = all_gathered m (paired_actions numbers slots requested) in
+    has_both k start rest ∙ ap (λ z. z || has rest k) (ap (λ l. has l k) e ∙ has_if k (list_any spans_all requested) (every_key m)) ∙ sym (all_split k m numbers slots requested)
 
 -- ---- on the way
 
@@ -155,12 +155,12 @@ own_more m before all now slots later cs rest c slot split mine theirs is so =
     ∙ ap (λ l. before ++ flat_map (own_keys m) (paired_commands slots l)) (sym split)
     ∙ so
 
-pub actions_more : (m : Maps) (before all added now : List Key) (numbers later : List (Option CtxNum)) (slots behind : List (Option ℕ)) (asked rest : List Action) (a : Action) (number : Option CtxNum)
-    → asked ≡ a ∷ rest → number ≡ first_owned numbers → later ≡ later_owned numbers → behind ≡ drop (length a.commands) slots
+pub actions_more : (m : Maps) (before all added now : List Key) (numbers later : List (Option CtxNum)) (slots behind : List (Option ℕ)) (requested rest : List Action) (a : Action) (number : Option CtxNum)
+    → requested ≡ a ∷ rest → number ≡ first_owned numbers → later ≡ later_owned numbers → behind ≡ drop (length a.commands) slots
     → added ≡ before ++ gathered m (paired_action number slots a) → ((k : Key) → has now k ≡ has added k)
-    → ((k : Key) → has (before ++ all_gathered m (paired_actions numbers slots asked)) k ≡ has all k)
+    → ((k : Key) → has (before ++ all_gathered m (paired_actions numbers slots requested)) k ≡ has all k)
     → (k : Key) → has (now ++ all_gathered m (paired_actions later behind rest)) k ≡ has all k
-actions_more m before all added now numbers later slots behind asked rest a number split mine theirs slots_behind is same so k =
+actions_more m before all added now numbers later slots behind requested rest a number split mine theirs slots_behind is same so k =
     let those : List (Option CtxNum) → List (Option ℕ) → List Key = λ n s. all_gathered m (paired_actions n s rest) in
     let first : Option CtxNum → List Key = λ n. gathered m (paired_action n slots a) in
     has_both k now (those later behind) ∙ ap (λ z. z || has (those later behind) k) (same k) ∙ sym (has_both k added (those later behind))

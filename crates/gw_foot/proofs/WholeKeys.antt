@@ -50,9 +50,9 @@ action_has : (m : Maps) (a : OwnedAction) → HasEvery m (action_footprint a m)
 action_has m a =
     let all : List Key = keys_if (is_for_each a.sent.ctx) (every_key m) in
     let one : List Key = place_key (one_context a.sent.ctx a.number) in
-    let asked : List Key = flat_map (keys_in_action a.sent.ctx a.number m) a.commands in
-    both_have m (all ++ one ++ asked) (keys_of_links a m)
-    (both_have m (all ++ one) asked
+    let requested : List Key = flat_map (keys_in_action a.sent.ctx a.number m) a.commands in
+    both_have m (all ++ one ++ requested) (keys_of_links a m)
+    (both_have m (all ++ one) requested
     (both_have m all one (if_has m (is_for_each a.sent.ctx)) (none_has m one (no_place (one_context a.sent.ctx a.number))))
     (each_has m (keys_in_action a.sent.ctx a.number m) (command_has m a.sent.ctx a.number) a.commands))
     (none_has m (keys_of_links a m) (no_links m (linked_names a.sent.props)))

@@ -196,7 +196,7 @@ module _ (rules : Rules) (keys : List Key) (start : Maps) where
           within_on a number slots m a.ctx refl (allowed a e) (without_links (Only keys) pair start h)
           (right_held (Only keys) (footprint_in start pair.commands a.ctx number) (keys_of_links pair start) h) (listed_in (Only keys) start pair h) w
 
-  within_actions : (held : List (Option CtxNum)) (slots : List (Option ℕ)) (asked : List Action) (m : Maps) → Holds (Only keys) (footprint_of (paired_actions held slots asked) start) → With AnySlot Q slots m → Within keys (of_actions rules (paired_actions held slots asked)) m
+  within_actions : (held : List (Option CtxNum)) (slots : List (Option ℕ)) (requested : List Action) (m : Maps) → Holds (Only keys) (footprint_of (paired_actions held slots requested) start) → With AnySlot Q slots m → Within keys (of_actions rules (paired_actions held slots requested)) m
   within_actions held slots [] m h w = tt
   within_actions held slots (a ∷ more) m h w =
       let one : OwnedAction = paired_action (first_owned held) slots a in

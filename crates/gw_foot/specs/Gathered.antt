@@ -6,14 +6,14 @@ use Rattle.gw_base.specs.declared.key.Key.{Key}
 use Rattle.gw_msg.specs.declared.message.Action.{Action}
 use Rattle.gw_msg.specs.declared.message.Command.{Command}
 use Rattle.gw_table.specs.Maps.{Maps}
-use Rattle.gw_refusal.specs.Asked.{is_wildcard}
+use Rattle.gw_refusal.specs.Requested.{is_wildcard}
 use Rattle.gw_cmd.specs.Keys.{keys_if, place_key}
 use Rattle.gw_tx.specs.Footprints.{is_for_each, one_context, stands_for_all, keys_of_members, named_keys, keys_of_links}
 use Rattle.gw_reserve.specs.Owned.{OwnedAction}
 
 -- an action for each context, or one with a command that stands for all
-abbrev pub asks_all : Action → Bool
-asks_all a = is_for_each a.ctx || list_any (stands_for_all a.ctx) a.commands
+abbrev pub spans_all : Action → Bool
+spans_all a = is_for_each a.ctx || list_any (stands_for_all a.ctx) a.commands
 
 abbrev pub has_wildcard : List Command → Bool
 has_wildcard cs = list_any (λ c. is_wildcard c.term) cs

@@ -11,7 +11,7 @@ ghost use Rattle.gw_tx.specs.Footprints.{one_context};
 ghost use Rattle.gw_reserve.specs.Owned.{paired_action, paired_actions, paired_commands};
 ghost use Rattle.gw_foot.specs.Gathered.{own_keys, gathered, all_gathered};
 
-use crate::asked::has_wildcard;
+use crate::requested::has_wildcard;
 use gw_base::{CtxNum, CtxRef, Key, NoMemory, TermName, TermRef};
 use gw_msg::{Action, Command};
 use gw_refusal::is_add;
@@ -179,15 +179,15 @@ pub(crate) fn add_actions(
     tables: &Tables,
     numbers: &[Option<CtxNum>],
     slots: &[Option<u16>],
-    asked: &[Action<'_>],
+    requested: &[Action<'_>],
     keys: &mut Vec<Key>,
 ) -> Result<(), NoMemory>
-    ensures { OnOk result ((k : Key) → has keys.new.items k ≡ has (keys.old.items ++ all_gathered (maps_of tables.now) (paired_actions numbers.now slots.now asked.now)) k) }
+    ensures { OnOk result ((k : Key) → has keys.new.items k ≡ has (keys.old.items ++ all_gathered (maps_of tables.now) (paired_actions numbers.now slots.now requested.now)) k) }
 {
     let mut numbers_left = numbers;
     let mut slots_left = slots;
     let mut most = keys.len().max(FEW);
-    for sent in asked {
+    for sent in requested {
         let (number, later) = next_entry(numbers_left);
         add_action(tables, number, slots_left, sent, keys)?;
         numbers_left = later;

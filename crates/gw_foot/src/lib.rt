@@ -1,10 +1,10 @@
 //! Which entries of the tables a request may claim, and what follows for requests that are executed side by side.
 #![tactic(auto)]
 
-mod asked;
 mod gather;
 mod laws;
 mod merge;
+mod requested;
 mod requests;
 
 pub use gather::one_context;

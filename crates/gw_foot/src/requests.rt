@@ -11,10 +11,10 @@ ghost use Rattle.gw_cmd.specs.Keys.{every_key, keys_if};
 ghost use Rattle.gw_reserve.specs.Owned.{paired};
 ghost use Rattle.gw_reserve.specs.declared.owned.Owned.{Owned as AnOwned};
 ghost use Rattle.gw_tx.specs.Footprints.{footprint_of};
-ghost use Rattle.gw_foot.specs.Gathered.{asks_all};
+ghost use Rattle.gw_foot.specs.Gathered.{spans_all};
 
-use crate::asked::asks_all;
 use crate::gather::{add_actions, add_every_key};
+use crate::requested::spans_all;
 use gw_base::{Key, NoMemory};
 use gw_msg::{Action, Request};
 use gw_reserve::Owned;
@@ -24,10 +24,10 @@ use std::alloc::Global;
 /// Most requests have no more keys, so that the list is made by one allocation.
 const MOST_HAVE: usize = 8;
 
-fn any_asks_all(actions: &[Action<'_>]) -> bool
-    ensures { result ≡ list_any asks_all actions.now }
+fn any_spans_all(actions: &[Action<'_>]) -> bool
+    ensures { result ≡ list_any spans_all actions.now }
 {
-    actions.iter().any(|action| asks_all(action))
+    actions.iter().any(|action| spans_all(action))
 }
 
 /// Whether something in a request is whole-table: then the whole of the tables is among its keys, whatever they are,
@@ -35,15 +35,15 @@ fn any_asks_all(actions: &[Action<'_>]) -> bool
 pub fn is_for_all(request: &Request<'_>) -> bool
     ensures { (owned : AnOwned) (m : Maps) → has (footprint_of (paired request.now owned) m) Whole ≡ result }
 {
-    any_asks_all(request.actions.as_slice())
+    any_spans_all(request.actions.as_slice())
 }
 
 /// Every key where something in the request is whole-table, else none.
 fn begun(alloc: Global, tables: &Tables, actions: &[Action<'_>]) -> Result<Vec<Key>, NoMemory>
-    ensures { IfOk result (λ keys. keys.items ≡ keys_if (list_any asks_all actions.now) (every_key (maps_of tables.now))) }
+    ensures { IfOk result (λ keys. keys.items ≡ keys_if (list_any spans_all actions.now) (every_key (maps_of tables.now))) }
 {
     let mut keys = Vec::with_capacity(alloc, MOST_HAVE)?;
-    if any_asks_all(actions) {
+    if any_spans_all(actions) {
         add_every_key(alloc, tables, &mut keys)?;
     }
     Ok(keys)

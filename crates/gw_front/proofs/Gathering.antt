@@ -2,7 +2,7 @@
 use Rattle.std.proofs.Common.{inl, inr, ◌≡◌, ℕ, ◌+◌, ◌<◌, ◌≤◌, Bool, true, false, ◌&&◌, refl, List, [], ◌∷◌, ◌++◌, length, cond, leb, Option, ap, sym, subst, ◌∙◌, append_assoc, arith, length-append}
 use Rattle.std.specs.Prelude.{Result, Ok, Err, is_err, OnOk}
 use Rattle.std.proofs.lemmas.Bool.{le-leb, false≢true}
-use Rattle.std.proofs.lemmas.Bool.Decides.{leb_says}
+use Rattle.std.proofs.lemmas.Bool.Decides.{leb_tells}
 use Rattle.std.proofs.lemmas.List.{append-nil, map-append, length-map}
 use Rattle.std.proofs.lemmas.List.Elements.{filter-append}
 use Rattle.std.specs.declared.net.socket_addr.SocketAddr.{SocketAddr}
@@ -81,7 +81,7 @@ taken-stranger controllers packet stranger = rw stranger refl
 
 taken-long : (controllers : List Controller) (packet : Packet) → 65507 < length packet.bytes
     → taken controllers (packet ∷ []) ≡ []
-taken-long controllers packet long = elim (leb_says (length packet.bytes) 65507) [
+taken-long controllers packet long = elim (leb_tells (length packet.bytes) 65507) [
   | inl h ↦ absurd (omega (arith, h.1))
   | inr h ↦ none (is_admitted controllers packet.address) (leb (length packet.bytes) 65507) h.0
 ]

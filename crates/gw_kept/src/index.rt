@@ -11,7 +11,7 @@ ghost use Rattle.gw_kept.specs.Order.{key_cmp};
 use crate::class::{Class, Source};
 use crate::entry::RequestKey;
 use crate::kept::Kept;
-use crate::point::{LentKey, Point, Removal};
+use crate::point::{BorrowedKey, Point, Removal};
 use crate::row::Row;
 use std::alloc::{AllocError, Global};
 use std::collections::BTreeMap;
@@ -66,7 +66,7 @@ pub(crate) fn source(before: usize, place: usize) -> Source
 /// oldest.
 pub(crate) fn kept_place(
     place: Option<usize>,
-    key: &LentKey<'_>,
+    key: &BorrowedKey<'_>,
     oldest: usize,
     left: &Option<Row>,
 ) -> Option<usize>
@@ -113,7 +113,7 @@ impl Index {
     }
 
     /// The class of a request of the burst, and its pair in the index if it is new: one look-up in the index.
-    fn request_class(&mut self, alloc: Global, key: &LentKey<'_>) -> Class
+    fn request_class(&mut self, alloc: Global, key: &BorrowedKey<'_>) -> Class
         ensures exact { (requested : List Item) (s : Standing) → IsIndex requested self.old s → is_requested key.now requested ≡ true → (result ≡ class_of self.old.before s.pairs (kept_place key.now s)) × IsIndex requested self.new (behind_request self.old.most result key.now s) }
         ensures most { self.new.most ≡ self.old.most }
         ensures before { self.new.before ≡ self.old.before }

@@ -7,7 +7,7 @@ ghost use Rattle.gw_kept.specs.Pairs.{key_of, bytes_for, bytes_at, none_kept, wi
 ghost use Rattle.gw_kept.specs.Rows.{kept_in};
 
 use crate::entry::Entry;
-use crate::point::LentKey;
+use crate::point::BorrowedKey;
 use crate::row::Row;
 use gw_base::{Mid, NoMemory, TxId};
 use gw_msg::AckRange;
@@ -86,7 +86,7 @@ impl Kept {
     pub fn find(&self, mid: &Mid, id: TxId) -> Option<&[u8]>
         ensures { option_copied result ≡ bytes_for (record { id = id.0; mid = mid.now }) self.now.pairs }
     {
-        let key = LentKey::by(mid, id.0);
+        let key = BorrowedKey::by(mid, id.0);
         match self.place(&key) {
             Some(place) => self.reply_at(place),
             None => None,
@@ -101,7 +101,7 @@ impl Kept {
     }
 
     /// The place of a key's pair, counted from the oldest on: log k steps for k pairs.
-    pub(crate) fn place(&self, key: &LentKey<'_>) -> Option<usize>
+    pub(crate) fn place(&self, key: &BorrowedKey<'_>) -> Option<usize>
         ensures place { result ≡ last_place key.now (keys_of self.now) }
         ensures distinct { AreDistinct self.now.pairs }
     {

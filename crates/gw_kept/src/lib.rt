@@ -23,4 +23,4 @@ pub use laws::{
     changes_go_in_turn, classes_go_in_turn, new_pairs_have_keys_of_their_own,
     repeats_get_kept_replies, what_is_acknowledged_is_not_kept, what_is_no_repeat_is_not_kept,
 };
-pub use point::{LentKey, Point, Ranges, Removal};
+pub use point::{BorrowedKey, Point, Ranges, Removal};

@@ -8,7 +8,7 @@ ghost use Rattle.gw_kept.specs.Order.{key_cmp, place_of, IsOrder, IsStand};
 ghost use Rattle.gw_kept.specs.Pairs.{key_by, key_of};
 
 use crate::entry::Entry;
-use crate::point::LentKey;
+use crate::point::BorrowedKey;
 use crate::ring::{Ring, pair_at, places_left};
 use gw_base::Mid;
 use std::alloc::{AllocError, Global};
@@ -104,7 +104,7 @@ impl Order {
     }
 
     /// The place of a key's pair, gaps counted.
-    pub fn find(&self, ring: &Ring, key: &LentKey<'_>) -> Option<usize>
+    pub fn find(&self, ring: &Ring, key: &BorrowedKey<'_>) -> Option<usize>
         requires { IsOrder (keys_in ring.now.items) self.now.first self.now.numbers.items }
         ensures { IsFound (keys_in ring.now.items) key.now result }
     {

@@ -11,12 +11,12 @@ use std::marker::Model;
 
 /// The key of a request, borrowed from the message that it came in. Contracts see the key itself.
 #[derive(Drop)]
-pub struct LentKey<'h> {
+pub struct BorrowedKey<'h> {
     mid: Sender<'h>,
     id: u32,
 }
 
-impl<'h> Model for LentKey<'h> {
+impl<'h> Model for BorrowedKey<'h> {
     ghost use Rattle.gw_kept.specs.declared.entry.RequestKey.{RequestKey as Key};
 
     ghost Value = { Key };
@@ -24,12 +24,12 @@ impl<'h> Model for LentKey<'h> {
     ghost view = { λ a. record { mid = a.mid; id = a.id } };
 }
 
-impl<'h> LentKey<'h> {
+impl<'h> BorrowedKey<'h> {
     /// That of a request of this sender under this number.
     pub fn new(mid: Sender<'h>, id: TxId) -> Self
         ensures { result ≡ key_by mid.entry id.0 }
     {
-        LentKey { mid, id: id.0 }
+        BorrowedKey { mid, id: id.0 }
     }
 
     /// That of this sender and this number.
@@ -37,7 +37,7 @@ impl<'h> LentKey<'h> {
     pub(crate) fn by(mid: &'h Mid, id: u32) -> Self
         ensures { result ≡ key_by mid.now id }
     {
-        LentKey {
+        BorrowedKey {
             mid: Sender::new(mid),
             id,
         }
@@ -135,7 +135,7 @@ impl<'h> Removal<'h> {
 #[derive(Drop)]
 pub enum Point<'h> {
     /// A request, by its key.
-    Request(LentKey<'h>),
+    Request(BorrowedKey<'h>),
     /// An acknowledgement.
     Ack(Removal<'h>),
     /// Another item, which has nothing to do with them.
@@ -148,7 +148,7 @@ impl<'h> Point<'h> {
         ensures { result ≡ point_in mid.entry item.now }
     {
         match item {
-            Item::Request(request) => Point::Request(LentKey::new(mid, request.id())),
+            Item::Request(request) => Point::Request(BorrowedKey::new(mid, request.id())),
             Item::Ack(ranges) => Point::Ack(Removal {
                 mid,
                 ranges: Ranges::new(ranges.as_slice()),

@@ -9,7 +9,7 @@ ghost use Rattle.gw_kept.specs.Rises.{is_above, do_numbers_rise, IsApart, IsTurn
 use crate::class::Class;
 use crate::index::{MOST_NEW, kept_place, source};
 use crate::kept::Kept;
-use crate::point::{LentKey, Point};
+use crate::point::{BorrowedKey, Point};
 use gw_base::{Items, NoMemory};
 use std::alloc::Global;
 
@@ -42,7 +42,7 @@ pub(crate) fn do_numbers_rise(points: &[Point<'_>]) -> bool
 impl Kept {
     /// The class of a request whose key no new request of the burst has, where there are so many pairs, those of the
     /// new ones counted: one look-up among the kept pairs.
-    fn class_among(&self, key: &LentKey<'_>, total: usize) -> Class
+    fn class_among(&self, key: &BorrowedKey<'_>, total: usize) -> Class
         ensures { (s : Standing) → IsApart self.now key.now s → total ≡ length s.pairs → result ≡ class_of (length self.now.pairs) s.pairs (kept_place key.now s) }
     {
         let before = self.len();

@@ -11,7 +11,7 @@ ghost use Rattle.gw_kept.specs.Rows.{gapped, present, kept_in, keys_in, places_f
 use crate::change::Turn;
 use crate::entry::Entry;
 use crate::order::Order;
-use crate::point::LentKey;
+use crate::point::BorrowedKey;
 use crate::ring::{Ring, close_gaps, pair_at, pop, put_last};
 use circular_buffer::HeapCircularBuffer;
 use gw_base::Mid;
@@ -93,7 +93,7 @@ impl Row {
     }
 
     /// The place of a key's pair, gaps counted: log k steps for k pairs. Each pair has a key of its own.
-    pub fn find(&self, key: &LentKey<'_>) -> Option<usize>
+    pub fn find(&self, key: &BorrowedKey<'_>) -> Option<usize>
         ensures found { IsFound (keys_in self.now.row) key.now result }
         ensures distinct { AreDistinct (present self.now.row) }
     {
@@ -101,7 +101,7 @@ impl Row {
     }
 
     /// Whether a key has a pair.
-    pub fn has(&self, key: &LentKey<'_>) -> bool
+    pub fn has(&self, key: &BorrowedKey<'_>) -> bool
         ensures { result ≡ has_pair key.now (keys_of (kept_in self.now)) }
     {
         self.find(key).is_some()
@@ -226,7 +226,7 @@ impl Row {
     }
 
     /// Keeps a key, without a reply, where no pair has it.
-    pub fn push_key(&mut self, alloc: Global, key: &LentKey<'_>)
+    pub fn push_key(&mut self, alloc: Global, key: &BorrowedKey<'_>)
         ensures keys { last_place key.now (keys_of (kept_in self.old)) ≡ None → keys_of (kept_in self.new) ≡ keep_last self.old.most (keys_of (kept_in self.old) ++ key.now ∷ []) }
         ensures most { self.new.most ≡ self.old.most }
     {

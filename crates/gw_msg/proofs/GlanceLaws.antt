@@ -9,7 +9,7 @@ use Rattle.gw_text.proofs.Ahead.{one_ahead}
 use Rattle.gw_msg.specs.declared.message.Request.{Request}
 use Rattle.gw_msg.specs.declared.message.Item.TheVariants as item
 use Rattle.gw_msg.specs.ActionReading.{request_tree_at}
-use Rattle.gw_msg.specs.Passages.{IsText, HasGlance, Glances, request_from}
+use Rattle.gw_msg.specs.RequestSources.{IsText, HasGlance, Glances, request_from}
 use Rattle.gw_msg.proofs.PassageLaws.{as_item, item_of_tree, from_its_text, begins_itself}
 use Rattle.gw_msg.proofs.ItemLaws.{request_reads}
 

@@ -12,7 +12,7 @@ use Rattle.gw_text.specs.Sign.{sign_at}
 use Rattle.gw_text.specs.Reader.{◌>>=◌, number_at, braced_at}
 use Rattle.gw_msg.specs.ActionReading.{action_at, request_tree_at}
 use Rattle.gw_msg.specs.Reading.{request_at}
-use Rattle.gw_msg.specs.Passages.{Begins, IsText, found_or_none, request_from}
+use Rattle.gw_msg.specs.RequestSources.{Begins, IsText, found_or_none, request_from}
 
 abbrev tree_of : ℕ → List Action → Request
 tree_of id actions = record { id = record { 0 = id }; actions = actions }

@@ -57,7 +57,7 @@ unfoldable pub details_of : Bool → Reader (List Descriptor)
 details_of true text = optional_group_at text >>= λ group. Some ([], group.1)
 details_of false text = optional_at descriptor_at text
 
--- marks, a command's token, `=`, a TerminationID, and what stands behind it
+-- `O-` and `W-`, a command's token, `=`, a TerminationID, and what stands behind it
 unfoldable pub command_at : Reader Command
 command_at text = do
   optional ← mark_at (codes "O-") text

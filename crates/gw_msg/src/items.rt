@@ -8,12 +8,12 @@ ghost use Rattle.gw_text.specs.Parts.{Gives, Finds};
 ghost use Rattle.gw_text.specs.Reader.{items_at, solid_as};
 ghost use Rattle.gw_msg.specs.ActionReading.{request_tree_at};
 ghost use Rattle.gw_msg.specs.NameWords.{mid_of};
-ghost use Rattle.gw_msg.specs.Passages.{Glances};
+ghost use Rattle.gw_msg.specs.RequestSources.{Glances};
 ghost use Rattle.gw_msg.specs.Reading.{request_at, reply_at, pending_at, last_at, range_at, ack_at, item_at, quoted_or_nothing, error_at, error_body_at, body_at, content_at};
 
 use crate::message::{AckRange, Item, Message, Request};
-use crate::passage::Passage;
 use crate::sender::Sender;
+use crate::source::RequestSource;
 use crate::words::{is_error_next, mid};
 use bumpalo::Bump;
 use gw_base::{Items, Listed, TxId};
@@ -27,7 +27,7 @@ pub(crate) enum Trees {
     /// They are kept with the message.
     Kept,
     /// Each is dropped once it is read whole. Meanwhile it lies in an arena over this allocator.
-    LetGo(Global),
+    Skimmed(Global),
 }
 
 /// How deep groups may lie in a reply.
@@ -85,7 +85,7 @@ fn glance<'s>(scratch: &'s Bump, mut begin: Cursor<'s>) -> Result<(TxId, usize),
 }
 
 /// A transaction without its tree, behind its token. It is read again from here.
-fn skimmed<'a>(scratch: &mut Bump, cursor: &mut Cursor<'a>) -> Result<Passage<'a>, ParseFault>
+fn skimmed<'a>(scratch: &mut Bump, cursor: &mut Cursor<'a>) -> Result<RequestSource<'a>, ParseFault>
     ensures { Gives result cursor.new (request_tree_at cursor.old) }
 {
     let begin = cursor.again();
@@ -93,20 +93,20 @@ fn skimmed<'a>(scratch: &mut Bump, cursor: &mut Cursor<'a>) -> Result<Passage<'a
     cursor.leave(left);
     // Where it fails, the arena stays as it is and goes on growing.
     let _ = scratch.reset();
-    Ok(Passage::of_text(begin, id))
+    Ok(RequestSource::of_text(begin, id))
 }
 
 /// A transaction, behind its token: with its tree, or without it where there is an arena to read it in.
 #[inline(always)]
-fn passage<'a>(
+fn source<'a>(
     bump: &'a Bump,
     cursor: &mut Cursor<'a>,
     scratch: Option<&mut Bump>,
-) -> Result<Passage<'a>, ParseFault>
+) -> Result<RequestSource<'a>, ParseFault>
     ensures { Gives result cursor.new (request_tree_at cursor.old) }
 {
     match scratch {
-        None => Ok(Passage::of_tree(request_tree(bump, cursor)?)),
+        None => Ok(RequestSource::of_tree(request_tree(bump, cursor)?)),
         Some(scratch) => skimmed(scratch, cursor),
     }
 }
@@ -120,7 +120,7 @@ fn request<'a>(
 ) -> Result<Item<'a>, ParseFault>
     ensures { Gives result cursor.new (request_at cursor.old) }
 {
-    Ok(Item::Request(passage(bump, cursor, scratch)?))
+    Ok(Item::Request(source(bump, cursor, scratch)?))
 }
 
 /// A reply, behind its token.
@@ -264,14 +264,17 @@ fn brief_items<'a>(
 
 /// The items, in the arena, where they take no more than their size: a list that grew there would leave a block behind
 /// at each allocation.
-fn laid_out<'a>(bump: &'a Bump, items: Items<Item<'a>>) -> Result<Listed<'a, Item<'a>>, AllocError>
-    ensures { IfOk result (λ laid. laid ≡ items.entry) }
+fn placed_items<'a>(
+    bump: &'a Bump,
+    items: Items<Item<'a>>,
+) -> Result<Listed<'a, Item<'a>>, AllocError>
+    ensures { IfOk result (λ placed. placed ≡ items.entry) }
 {
-    let mut laid = Vec::with_capacity(bump, items.len())?;
+    let mut placed = Vec::with_capacity(bump, items.len())?;
     for item in items.into_vec() {
-        put(&mut laid, item)?;
+        put(&mut placed, item)?;
     }
-    Ok(Listed::kept(laid))
+    Ok(Listed::kept(placed))
 }
 
 /// The items to the end of the text.
@@ -285,7 +288,7 @@ fn all_items<'a>(
 {
     match trees {
         Trees::Kept => whole_items(bump, cursor),
-        Trees::LetGo(alloc) => Ok(laid_out(bump, brief_items(alloc, bump, cursor)?)?),
+        Trees::Skimmed(alloc) => Ok(placed_items(bump, brief_items(alloc, bump, cursor)?)?),
     }
 }
 

@@ -5,16 +5,16 @@ mod actions;
 mod fault;
 mod items;
 mod message;
-mod passage;
 mod properties;
 mod read;
 mod sender;
+mod source;
 mod words;
 
 pub use fault::ReadFault;
 pub use message::{
     AckRange, Action, Command, ContextItem, ContextProp, Item, Message, Request, Triple,
 };
-pub use passage::Passage;
 pub use read::{one_answer, one_message, read_message, skim_message};
 pub use sender::Sender;
+pub use source::RequestSource;

@@ -1,7 +1,7 @@
 //! The tree of a message (RFC 3525, section 8 and Annex B.2).
 
-use crate::passage::Passage;
 use crate::sender::Sender;
+use crate::source::RequestSource;
 use gw_base::{CtxRef, Flow, Listed, TermRef, TxId, Verb};
 use gw_desc::Descriptor;
 
@@ -26,7 +26,7 @@ impl Drop for Message<'_> {
 #[derive(Drop)]
 pub enum Item<'a> {
     /// A transaction to be executed.
-    Request(Passage<'a>),
+    Request(RequestSource<'a>),
     /// Replies that have arrived, by the numbers of their transactions.
     Ack(Listed<'a, AckRange>),
     /// A reply, or that one is pending: read, and of no effect.

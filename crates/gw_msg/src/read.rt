@@ -106,7 +106,7 @@ pub fn skim_message<'a>(
 ) -> Result<Message<'a>, ReadFault>
     ensures { IsReadingOf text.now result }
 {
-    answer(bump, text, Trees::LetGo(alloc))
+    answer(bump, text, Trees::Skimmed(alloc))
 }
 
 /// A text spells one message at most, and none where its header has another version.

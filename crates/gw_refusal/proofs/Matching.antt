@@ -4,7 +4,7 @@ use Rattle.std.specs.Prelude.{◌≢◌, ◌||◌, ◌&&◌, if◌then◌else◌
 use Rattle.std.specs.List.{list_any, filter}
 use Rattle.gw_base.specs.declared.term_ref.TermRef.{TermRef}
 use Rattle.gw_base.specs.declared.term_ref.TermRef.TheVariants.{Root, All, Under, Choose, Name, Other}
-use Rattle.gw_refusal.specs.Asked.{matches, is_some_list}
+use Rattle.gw_refusal.specs.Requested.{matches, is_some_list}
 
 -- some pass where one passes
 pub any_kept : {X : Type 0} (p : X → Bool) (l : List X) → list_any p l ≡ is_some_list (filter p l)

@@ -6,7 +6,7 @@ use Rattle.gw_base.specs.declared.code.Code.TheVariants.{UnknownCommand, NotImpl
 use Rattle.gw_msg.specs.declared.message.Command.{Command}
 use Rattle.gw_refusal.specs.declared.at.At.{At}
 use Rattle.gw_refusal.specs.Places.{is_null, is_unmade, is_each}
-use Rattle.gw_refusal.specs.Asked.{is_move, is_modify, is_subtract, is_service_change, brings, is_unsupported, is_root, is_choose, is_other_term, is_wildcard, audited, is_some_list, method, delay, is_other_method, is_other_delay}
+use Rattle.gw_refusal.specs.Requested.{is_move, is_modify, is_subtract, is_service_change, brings, is_unsupported, is_root, is_choose, is_other_term, is_wildcard, audited, is_some_list, method, delay, is_other_method, is_other_delay}
 
 -- 501: what this profile leaves out
 abbrev pub is_left_out : At → Command → Bool

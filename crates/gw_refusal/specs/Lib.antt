@@ -1,4 +1,4 @@
-pub mod Asked
+pub mod Requested
 pub mod Forms
 pub mod Places
 pub mod Targets

@@ -10,7 +10,7 @@ pub use Rattle.gw_table.specs.Maps.{is_free}
 use Rattle.gw_table.specs.Maps.{Maps, ctx, names, members_of}
 use Rattle.gw_refusal.specs.declared.at.At.{At}
 use Rattle.gw_refusal.specs.Places.{place_at}
-use Rattle.gw_refusal.specs.Asked.{is_add, matches}
+use Rattle.gw_refusal.specs.Requested.{is_add, matches}
 
 -- the members of the context in joining order; of the null context, all that are in none, in the order of their bytes
 abbrev pub those_in : Option CtxNum → Maps → List (List ℕ)

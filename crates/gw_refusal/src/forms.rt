@@ -3,11 +3,11 @@
 ghost use Rattle.std.specs.Prelude.{◌≡◌};
 ghost use Rattle.gw_refusal.specs.Forms.{is_left_out, is_misplaced, refusal_by_form};
 
-use crate::asked::{
+use crate::at::At;
+use crate::requested::{
     audits_any, brings, is_choose, is_modify, is_move, is_other, is_other_delay, is_other_method,
     is_root, is_service_change, is_subtract, is_unsupported, is_wildcard,
 };
-use crate::at::At;
 use gw_base::Code;
 use gw_msg::Command;
 

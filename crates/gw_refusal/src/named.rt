@@ -3,11 +3,11 @@
 ghost use Rattle.std.specs.Prelude.{◌≡◌, ◌&&◌, IfOk};
 ghost use Rattle.std.specs.List.{list_any};
 ghost use Rattle.gw_table.specs.Maps.{names, ctx, members_of};
-ghost use Rattle.gw_refusal.specs.Asked.{matches, is_some_list};
+ghost use Rattle.gw_refusal.specs.Requested.{matches, is_some_list};
 ghost use Rattle.gw_refusal.specs.Targets.{is_free, those_in, source, matched, targets};
 
-use crate::asked::{is_add, matches};
 use crate::at::At;
+use crate::requested::{is_add, matches};
 use gw_base::{CtxNum, NoMemory, TermRef};
 use gw_msg::Command;
 use gw_table::{Draft, Target};

@@ -43,7 +43,7 @@ fn skip_taken(tables: &Tables, order: Order, rank: u32) -> u32
 }
 
 /// The next free number. The work is a step for each 64 numbers that are passed by, and a look-up for each of them of
-/// which the context is not marked.
+/// which the context has no bit.
 fn take_number(tables: &Tables, order: Order, search: &mut Search) -> Option<CtxNum>
     requires search { IsSearch 65535 order search.old }
     ensures value { result ≡ slice_get (numbers_from (maps_of tables.now) order search.old.next) 0 }

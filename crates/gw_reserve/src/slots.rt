@@ -29,7 +29,7 @@ fn skip_taken(tables: &Tables, order: Order, rank: u32) -> u32
 }
 
 /// The next free slot. The work is a step for each 64 slots that are passed by, and a look-up for each of them of which
-/// the termination is not marked.
+/// the termination has no bit.
 fn take_slot(tables: &Tables, order: Order, search: &mut Search) -> Option<u16>
     requires search { IsSearch 4096 order search.old }
     ensures value { result ≡ slice_get (slots_from (maps_of tables.now) order search.old.next) 0 }

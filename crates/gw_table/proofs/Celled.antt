@@ -24,7 +24,7 @@ use Rattle.gw_table.specs.declared.place.Place.TheVariants.{Empty}
 use Rattle.gw_table.specs.declared.cell.Cell.{Cell}
 use Rattle.gw_table.specs.Cells.{cell_term, cell_ctx, with_term, with_ctx, cells_by, term_cells, ctx_cells, celled, empty_cell, out_cell, cell_from, with_cell}
 use Rattle.gw_table.specs.Parts.{Only, IsPart}
-use Rattle.gw_table.specs.Stored.{Stored, shown, has_left, maps_of, is_ready, is_out, or_empty, with_out, with_place_of, put_term_place, put_ctx_place, ArePacked, AreBlank, nothing_stored}
+use Rattle.gw_table.specs.Stored.{Stored, visible, has_left, maps_of, is_ready, is_out, or_empty, with_out, with_place_of, put_term_place, put_ctx_place, ArePacked, AreBlank, nothing_stored}
 use Rattle.gw_table.proofs.Exchanged.{term_written, ctx_written}
 use Rattle.gw_table.proofs.KeyOrder.{same_key_is}
 use Rattle.gw_table.proofs.Places.{term-maps_of, ctx-maps_of, shown_alike, maps_of_nothing}
@@ -214,7 +214,7 @@ pub length_empty : (keys : List Key) → length (map empty_cell keys) ≡ length
 length_empty [] = refl
 length_empty (k ∷ keys) = ap (λ n. suc n) (length_empty keys)
 
-still_empty : {A : Type 0} (b : Bool) (o : Option (Place A)) → shown o ≡ None → shown (cond b (Some Empty) o) ≡ None
+still_empty : {A : Type 0} (b : Bool) (o : Option (Place A)) → visible o ≡ None → visible (cond b (Some Empty) o) ≡ None
 still_empty true o h = refl
 still_empty false o h = h
 
@@ -222,16 +222,16 @@ still_in : {A : Type 0} (b : Bool) (o : Option (Place A)) → has_left o ≡ fal
 still_in true o h = refl
 still_in false o h = h
 
-all_empty_terms : (keys : List Key) (t : List ℕ) → shown (lookup (is_at (name_cmp t)) (term_cells keys (map empty_cell keys))) ≡ None
+all_empty_terms : (keys : List Key) (t : List ℕ) → visible (lookup (is_at (name_cmp t)) (term_cells keys (map empty_cell keys))) ≡ None
 all_empty_terms [] t = refl
-all_empty_terms (Term q ∷ keys) t = ap (λ o. shown o) (one_term t (Term q) (empty_cell (Term q)) (term_cells keys (map empty_cell keys))) ∙ still_empty (same_key (Term t) (Term q)) (lookup (is_at (name_cmp t)) (term_cells keys (map empty_cell keys))) (all_empty_terms keys t)
+all_empty_terms (Term q ∷ keys) t = ap (λ o. visible o) (one_term t (Term q) (empty_cell (Term q)) (term_cells keys (map empty_cell keys))) ∙ still_empty (same_key (Term t) (Term q)) (lookup (is_at (name_cmp t)) (term_cells keys (map empty_cell keys))) (all_empty_terms keys t)
 all_empty_terms (Ctx n ∷ keys) t = all_empty_terms keys t
 all_empty_terms (Whole ∷ keys) t = all_empty_terms keys t
 
-all_empty_ctxs : (keys : List Key) (n : ℕ) → shown (lookup (is_at (nat_cmp n)) (ctx_cells keys (map empty_cell keys))) ≡ None
+all_empty_ctxs : (keys : List Key) (n : ℕ) → visible (lookup (is_at (nat_cmp n)) (ctx_cells keys (map empty_cell keys))) ≡ None
 all_empty_ctxs [] n = refl
 all_empty_ctxs (Term q ∷ keys) n = all_empty_ctxs keys n
-all_empty_ctxs (Ctx q ∷ keys) n = ap (λ o. shown o) (one_ctx n (Ctx q) (empty_cell (Ctx q)) (ctx_cells keys (map empty_cell keys))) ∙ still_empty (same_key (of_number n) (Ctx q)) (lookup (is_at (nat_cmp n)) (ctx_cells keys (map empty_cell keys))) (all_empty_ctxs keys n)
+all_empty_ctxs (Ctx q ∷ keys) n = ap (λ o. visible o) (one_ctx n (Ctx q) (empty_cell (Ctx q)) (ctx_cells keys (map empty_cell keys))) ∙ still_empty (same_key (of_number n) (Ctx q)) (lookup (is_at (nat_cmp n)) (ctx_cells keys (map empty_cell keys))) (all_empty_ctxs keys n)
 all_empty_ctxs (Whole ∷ keys) n = all_empty_ctxs keys n
 
 none_out_terms : (keys : List Key) (t : List ℕ) → has_left (lookup (is_at (name_cmp t)) (term_cells keys (map empty_cell keys))) ≡ false
@@ -257,8 +257,8 @@ blank_cells keys = record {
     here = here;
   };
   maps = shown_alike (blank_of keys) nothing_stored
-      (λ t. ap (λ o. shown o) (seen nat_list_cmp_total (term_cells keys (map empty_cell keys)) t) ∙ all_empty_terms keys t ∙ ap (λ o. shown o) (sym (get-empty name_cmp t)))
-      (λ n. ap (λ o. shown o) (seen nat_cmp_total (ctx_cells keys (map empty_cell keys)) n.0) ∙ all_empty_ctxs keys n.0 ∙ ap (λ o. shown o) (sym (get-empty nat_cmp n.0)))
+      (λ t. ap (λ o. visible o) (seen nat_list_cmp_total (term_cells keys (map empty_cell keys)) t) ∙ all_empty_terms keys t ∙ ap (λ o. visible o) (sym (get-empty name_cmp t)))
+      (λ n. ap (λ o. visible o) (seen nat_cmp_total (ctx_cells keys (map empty_cell keys)) n.0) ∙ all_empty_ctxs keys n.0 ∙ ap (λ o. visible o) (sym (get-empty nat_cmp n.0)))
       ∙ maps_of_nothing;
 }
   where
@@ -278,7 +278,7 @@ written_back (x ∷ new) (y ∷ old) (suc n) h g = ap (λ l. x ∷ l) (written_b
 
 -- ---- no entry is but at the keys
 
-entry_placed : {A : Type 0} (o : Option (Place A)) → is_some (shown o) ≡ true → is_some o ≡ true
+entry_placed : {A : Type 0} (o : Option (Place A)) → is_some (visible o) ≡ true → is_some o ≡ true
 entry_placed None h = h
 entry_placed (Some p) h = refl
 

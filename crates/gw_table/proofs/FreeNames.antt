@@ -18,7 +18,7 @@ use Rattle.gw_table.specs.declared.place.Place.{Place}
 use Rattle.gw_table.specs.declared.place.Place.TheVariants.{Empty, Here, Out}
 use Rattle.gw_table.specs.Free.{is_free_at}
 use Rattle.gw_table.specs.Maps.{term, place_of, is_free, names}
-use Rattle.gw_table.specs.Stored.{Stored, stored, shown, maps_of}
+use Rattle.gw_table.specs.Stored.{Stored, stored, visible, maps_of}
 use Rattle.gw_table.proofs.Exchanged.{names_are}
 use Rattle.gw_table.proofs.Places.{term-maps_of}
 use Rattle.gw_table.proofs.Shown.{keys_here}
@@ -49,7 +49,7 @@ each_found (e ∷ es) s = (ap (λ r. cond (is_eq r) (Some e.1) (lookup (is_at (n
 
 -- ---- those that are free
 
-those_free : (look : List ℕ → Option Termination) (es : List Named) → AllByRecursion (λ e. look e.0 ≡ shown (Some e.1)) es → filter (λ t. is_none (place_of (look t))) (keys_here es) ≡ free_here es
+those_free : (look : List ℕ → Option Termination) (es : List Named) → AllByRecursion (λ e. look e.0 ≡ visible (Some e.1)) es → filter (λ t. is_none (place_of (look t))) (keys_here es) ≡ free_here es
 those_free look [] h = refl
 those_free look ((t, Empty) ∷ es) h = those_free look es h.1
 those_free look ((t, Here r) ∷ es) h =
@@ -57,13 +57,13 @@ those_free look ((t, Here r) ∷ es) h =
     λ i. cond (is_none (place_of (h.0 i))) (t ∷ rest i) (rest i)
 those_free look ((t, Out) ∷ es) h = those_free look es h.1
 
-pub shown_each : (look : List ℕ → Option Termination) (es fs : List Named) → ((t : List ℕ) → look t ≡ shown (lookup (is_at (name_cmp t)) es)) → AllByRecursion (λ e. lookup (is_at (name_cmp e.0)) es ≡ Some e.1) fs → AllByRecursion (λ e. look e.0 ≡ shown (Some e.1)) fs
+pub shown_each : (look : List ℕ → Option Termination) (es fs : List Named) → ((t : List ℕ) → look t ≡ visible (lookup (is_at (name_cmp t)) es)) → AllByRecursion (λ e. lookup (is_at (name_cmp e.0)) es ≡ Some e.1) fs → AllByRecursion (λ e. look e.0 ≡ visible (Some e.1)) fs
 shown_each look es [] g h = tt
-shown_each look es (f ∷ fs) g h = (g f.0 ∙ ap (λ o. shown o) h.0, shown_each look es fs g h.1)
+shown_each look es (f ∷ fs) g h = (g f.0 ∙ ap (λ o. visible o) h.0, shown_each look es fs g h.1)
 
 pub free_are : (es : List Named) (cs : List (ℕ × Place ContextRecord)) → IsStrictlySortedBy name_cmp (keys_of es) → free_here es ≡ filter (is_free (maps_of (stored es cs))) (names (maps_of (stored es cs)))
 free_are es cs s =
-    sym (those_free (term (maps_of (stored es cs))) es (shown_each (term (maps_of (stored es cs))) es es (λ t. term-maps_of (stored es cs) t ∙ ap (λ o. shown o) (seen nat_list_cmp_total es t)) (each_found es s)))
+    sym (those_free (term (maps_of (stored es cs))) es (shown_each (term (maps_of (stored es cs))) es es (λ t. term-maps_of (stored es cs) t ∙ ap (λ o. visible o) (seen nat_list_cmp_total es t)) (each_found es s)))
     ∙ ap (λ (l : List (List ℕ)). filter (is_free (maps_of (stored es cs))) l) (names_are es cs s)
 
 pub any_both : {A : Type 0} (f p : A → Bool) (xs : List A) → list_any p (filter f xs) ≡ list_any (λ x. f x && p x) xs

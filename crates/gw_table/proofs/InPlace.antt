@@ -10,8 +10,8 @@ use Rattle.gw_base.specs.Keys.{same_key, has}
 use Rattle.gw_term.specs.declared.record.Termination.{Termination}
 use Rattle.gw_term.specs.Record.{serviced}
 use Rattle.gw_ctx.specs.Contexts.{ContextRecord}
-use Rattle.gw_table.specs.declared.originals.Write.{Write}
-use Rattle.gw_table.specs.declared.originals.Write.TheVariants.{OfTerm, OfCtx, OfProperties}
+use Rattle.gw_table.specs.declared.undo_log.Write.{Write}
+use Rattle.gw_table.specs.declared.undo_log.Write.TheVariants.{OfTerm, OfCtx, OfProperties}
 use Rattle.gw_table.specs.declared.setting.Setting.{Setting}
 use Rattle.gw_table.specs.declared.setting.Setting.TheVariants.{Both}
 use Rattle.gw_table.specs.declared.place.Place.{Place}
@@ -22,9 +22,9 @@ use Rattle.gw_table.specs.Found.{IsFound, unlogged_of}
 use Rattle.gw_table.specs.KeptSettings.{IsKept, MayKeep}
 use Rattle.gw_table.specs.Maps.{number, term, ctx, put_term, put_ctx}
 use Rattle.gw_table.specs.Members.{put_service}
-use Rattle.gw_table.specs.Originals.{keys_written, without_write, undone, begun_by, before_all, has_properties, IsInPlace}
+use Rattle.gw_table.specs.UndoLog.{keys_written, without_write, undone, begun_by, before_all, has_properties, IsInPlace}
 use Rattle.gw_table.specs.Settings.{with_setting, put_setting, set_at, set_place}
-use Rattle.gw_table.specs.Stored.{Stored, shown, placed, has_left, maps_of, is_ready, put_term_place, put_ctx_place, with_service, without_ctx, NoneIsOut, AreReady, KeepReady, NoOtherReady}
+use Rattle.gw_table.specs.Stored.{Stored, visible, placed, has_left, maps_of, is_ready, put_term_place, put_ctx_place, with_service, without_ctx, NoneIsOut, AreReady, KeepReady, NoOtherReady}
 use Rattle.gw_table.proofs.Leaving.{put_ctx-same}
 use Rattle.gw_table.proofs.Moved.{has-pushed}
 use Rattle.gw_base.proofs.NameTests.{same_name, same_number}
@@ -139,7 +139,7 @@ has_place : (s : Stored) (n : CtxNum) (o : Option ContextRecord) (x : Setting) �
 has_place s n None x e k h = h
 has_place s n (Some c) x e k h = had_ctx s n (Here (with_setting x c)) (some (finite.get s.contexts n.0) (e ∙ ctx-maps_of s n)) k h
   where
-    some : (o : Option (Place ContextRecord)) → Some c ≡ shown o → is_some o ≡ true
+    some : (o : Option (Place ContextRecord)) → Some c ≡ visible o → is_some o ≡ true
     some None g = absurd cc
     some (Some p) g = refl
 
@@ -182,7 +182,7 @@ module _ (start now : Stored) (ws : List Write) (i : IsInPlace start now ws) whe
   pub wrote_term : (t : List ℕ) (p : Place Termination) (before : Option Termination) → has_left (Some p) ≡ false → before ≡ term (maps_of now) t → IsInPlace start (put_term_place now t p) (ws ++ OfTerm t before ∷ [])
   wrote_term t p before g was = record {
     here = in-put_term now t p g i.here;
-    back = ap (undone (ws ++ OfTerm t before ∷ [])) (maps-put_term_place now t p) ∙ undone_term ws (maps_of now) t (shown (Some p)) before was ∙ i.back;
+    back = ap (undone (ws ++ OfTerm t before ∷ [])) (maps-put_term_place now t p) ∙ undone_term ws (maps_of now) t (visible (Some p)) before was ∙ i.back;
     places = λ k h. one_more (keys_written ws) (Term t) now (put_term_place now t p) (keep-put_term now t p) (made-put_term now t p) i.places k (ap (λ (l : List Key). has l k) (sym (keys_more ws (OfTerm t before))) ∙ h);
     kept = λ k h. keep-put_term now t p k (i.kept k h);
     alone = λ k h. one_other (keys_written ws) (Term t) start now (put_term_place now t p) (alone-put_term now t p) i.alone k (ap (λ (l : List Key). has l k) (sym (keys_more ws (OfTerm t before))) ∙ h);
@@ -191,7 +191,7 @@ module _ (start now : Stored) (ws : List Write) (i : IsInPlace start now ws) whe
   pub wrote_ctx : (n : CtxNum) (p : Place ContextRecord) (before : Option ContextRecord) → has_left (Some p) ≡ false → before ≡ ctx (maps_of now) n → IsInPlace start (put_ctx_place now n p) (ws ++ OfCtx n before ∷ [])
   wrote_ctx n p before g was = record {
     here = in-put_ctx now n p g i.here;
-    back = ap (undone (ws ++ OfCtx n before ∷ [])) (maps-put_ctx_place now n p) ∙ undone_ctx ws (maps_of now) n (shown (Some p)) before was ∙ i.back;
+    back = ap (undone (ws ++ OfCtx n before ∷ [])) (maps-put_ctx_place now n p) ∙ undone_ctx ws (maps_of now) n (visible (Some p)) before was ∙ i.back;
     places = λ k h. one_more (keys_written ws) (Ctx n) now (put_ctx_place now n p) (keep-put_ctx now n p) (made-put_ctx now n p) i.places k (ap (λ (l : List Key). has l k) (sym (keys_more ws (OfCtx n before))) ∙ h);
     kept = λ k h. keep-put_ctx now n p k (i.kept k h);
     alone = λ k h. one_other (keys_written ws) (Ctx n) start now (put_ctx_place now n p) (alone-put_ctx now n p) i.alone k (ap (λ (l : List Key). has l k) (sym (keys_more ws (OfCtx n before))) ∙ h);
@@ -201,7 +201,7 @@ module _ (start now : Stored) (ws : List Write) (i : IsInPlace start now ws) whe
   pub wrote_term_again : (t : List ℕ) (p : Place Termination) → has_left (Some p) ≡ false → has (keys_written ws) (Term t) ≡ true → IsInPlace start (put_term_place now t p) ws
   wrote_term_again t p g h = record {
     here = in-put_term now t p g i.here;
-    back = ap (undone ws) (maps-put_term_place now t p) ∙ undone_term_again ws (maps_of now) t (shown (Some p)) h ∙ i.back;
+    back = ap (undone ws) (maps-put_term_place now t p) ∙ undone_term_again ws (maps_of now) t (visible (Some p)) h ∙ i.back;
     places = λ k e. keep-put_term now t p k (i.places k e);
     kept = λ k e. keep-put_term now t p k (i.kept k e);
     alone = λ k e r. i.alone k e (had_term now t p (i.places (Term t) h) k r);
@@ -210,7 +210,7 @@ module _ (start now : Stored) (ws : List Write) (i : IsInPlace start now ws) whe
   pub wrote_ctx_again : (n : CtxNum) (p : Place ContextRecord) → has_left (Some p) ≡ false → has (keys_written ws) (Ctx n) ≡ true → IsInPlace start (put_ctx_place now n p) ws
   wrote_ctx_again n p g h = record {
     here = in-put_ctx now n p g i.here;
-    back = ap (undone ws) (maps-put_ctx_place now n p) ∙ undone_ctx_again ws (maps_of now) n (shown (Some p)) h ∙ i.back;
+    back = ap (undone ws) (maps-put_ctx_place now n p) ∙ undone_ctx_again ws (maps_of now) n (visible (Some p)) h ∙ i.back;
     places = λ k e. keep-put_ctx now n p k (i.places k e);
     kept = λ k e. keep-put_ctx now n p k (i.kept k e);
     alone = λ k e r. i.alone k e (had_ctx now n p (i.places (Ctx n) h) k r);
@@ -259,12 +259,12 @@ pub may_keep : (start now : Stored) (ws vs : List Write) (n : ℕ) (p : Place Co
 may_keep start now ws vs n p stands (inl e) i = subst (λ (l : List Write). IsInPlace start now l) (sym e) i
 may_keep start now ws vs n p stands (inr (c, here, e)) i =
     subst (λ (l : List Write). IsInPlace start now l) (sym e)
-    (logged_properties start now ws i (number n) c (ctx-maps_of now (number n) ∙ ap (λ o. shown o) (stands ∙ ap (λ (y : Place ContextRecord). Some y) here)))
+    (logged_properties start now ws i (number n) c (ctx-maps_of now (number n) ∙ ap (λ o. visible o) (stands ∙ ap (λ (y : Place ContextRecord). Some y) here)))
 
 pub set_one : (start now : Stored) (ws : List Write) → IsInPlace start now ws → (n : CtxNum) (x : Setting) (p : Place ContextRecord) → finite.get now.contexts n.0 ≡ Some p → IsKept x ws n.0 p → IsInPlace start (put_ctx_place now n (set_at x p)) ws
 set_one start now ws i n x p stands kept = record {
   here = in-put_ctx now n (set_at x p) (out_still x p ∙ ap (λ o. has_left o) (sym stands) ∙ i.here (Ctx n)) i.here;
-  back = ap (undone ws) (maps-put_ctx_place now n (set_at x p)) ∙ undone_beside ws (maps_of now) (put_ctx (maps_of now) n (shown (Some (set_at x p)))) (λ t. term-put_ctx (maps_of now) n (shown (Some (set_at x p))) t) (λ q. at q (nat_eq q.0 n.0) refl) ∙ i.back;
+  back = ap (undone ws) (maps-put_ctx_place now n (set_at x p)) ∙ undone_beside ws (maps_of now) (put_ctx (maps_of now) n (visible (Some (set_at x p)))) (λ t. term-put_ctx (maps_of now) n (visible (Some (set_at x p))) t) (λ q. at q (nat_eq q.0 n.0) refl) ∙ i.back;
   places = λ k e. keep-put_ctx now n (set_at x p) k (i.places k e);
   kept = λ k e. keep-put_ctx now n (set_at x p) k (i.kept k e);
   alone = λ k e r. i.alone k e (had_ctx now n (set_at x p) (ap (λ o. is_some o) stands) k r);
@@ -275,16 +275,16 @@ set_one start now ws i n x p stands kept = record {
     out_still x (Here c) = refl
     out_still x Out = refl
 
-    shows : (x : Setting) (p : Place ContextRecord) → shown (Some (set_at x p)) ≡ with_it x (shown (Some p))
+    shows : (x : Setting) (p : Place ContextRecord) → visible (Some (set_at x p)) ≡ with_it x (visible (Some p))
     shows x Empty = refl
     shows x (Here c) = refl
     shows x Out = refl
 
-    was : shown (Some p) ≡ ctx (maps_of now) n
-    was = ap (λ o. shown o) (sym stands) ∙ sym (ctx-maps_of now n)
+    was : visible (Some p) ≡ ctx (maps_of now) n
+    was = ap (λ o. visible o) (sym stands) ∙ sym (ctx-maps_of now n)
 
     new : Option ContextRecord
-    new = shown (Some (set_at x p))
+    new = visible (Some (set_at x p))
 
     same : (q : CtxNum) → nat_eq q.0 n.0 ≡ true → new ≡ ctx (maps_of now) n → ctx (put_ctx (maps_of now) n new) q ≡ ctx (maps_of now) q
     same q e f = ctx-put_ctx (maps_of now) n new q ∙ ap (λ (b : Bool). cond b new (ctx (maps_of now) q)) e ∙ f ∙ ap (ctx (maps_of now)) (sym (same_number q n e))
@@ -293,7 +293,7 @@ set_one start now ws i n x p stands kept = record {
     at q false e = inr (ap (settled ws q) (ctx-put_ctx (maps_of now) n new q ∙ ap (λ (b : Bool). cond b new (ctx (maps_of now) q)) e))
     at q true e = elim kept [
       | inl logged ↦ inl (ap (λ (m : CtxNum). has (keys_written ws) (Ctx m)) (same_number q n e) ∙ logged)
-      | inr (inl so) ↦ inr (ap (settled ws q) (same q e (ap (λ (y : Place ContextRecord). shown (Some y)) so ∙ was)))
+      | inr (inl so) ↦ inr (ap (settled ws q) (same q e (ap (λ (y : Place ContextRecord). visible (Some y)) so ∙ was)))
       | inr (inr in_part) ↦ inr (
           ap (settled ws q) (ctx-put_ctx (maps_of now) n new q ∙ ap (λ (b : Bool). cond b new (ctx (maps_of now) q)) e ∙ shows x p ∙ ap (λ (o : Option ContextRecord). with_it x o) (was ∙ ap (ctx (maps_of now)) (sym (same_number q n e))))
           ∙ settled_so ws q x (ctx (maps_of now) q) (ap (λ (m : CtxNum). has_properties m ws) (same_number q n e) ∙ in_part))

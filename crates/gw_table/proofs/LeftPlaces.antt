@@ -4,7 +4,7 @@ use Rattle.std.specs.FinMap as finite
 use Rattle.gw_base.specs.declared.ids.CtxNum.{CtxNum}
 use Rattle.gw_base.specs.declared.key.Key.TheVariants.{Ctx}
 use Rattle.gw_ctx.specs.Contexts.{ContextRecord, left}
-use Rattle.gw_table.specs.declared.originals.Write.{Write}
+use Rattle.gw_table.specs.declared.undo_log.Write.{Write}
 use Rattle.gw_table.specs.declared.place.Place.{Place}
 use Rattle.gw_table.specs.declared.place.Place.TheVariants.{Empty, Here, Out}
 use Rattle.gw_table.specs.declared.row.Found.{Found}
@@ -13,13 +13,13 @@ use Rattle.gw_table.specs.Found.{IsFound, unlogged_of}
 use Rattle.gw_table.specs.Joining.{left_at, leave_place}
 use Rattle.gw_table.specs.Maps.{ctx, put_ctx, context_of}
 use Rattle.gw_table.specs.Members.{unless_empty}
-use Rattle.gw_table.specs.Originals.{keys_written, IsInPlace}
-use Rattle.gw_table.specs.Stored.{Stored, shown, placed, maps_of, put_ctx_place}
+use Rattle.gw_table.specs.UndoLog.{keys_written, IsInPlace}
+use Rattle.gw_table.specs.Stored.{Stored, visible, placed, maps_of, put_ctx_place}
 use Rattle.gw_table.proofs.InPlace.{wrote_ctx_again}
 use Rattle.gw_table.proofs.Leaving.{put_ctx-same}
 use Rattle.gw_table.proofs.Places.{same_ctx_place, maps-put_ctx_place, shown_placed, placed_here}
 
-pub left_here : (t : List ℕ) (s : Stored) (n : CtxNum) (p : Place ContextRecord) → finite.get s.contexts n.0 ≡ Some p → put_ctx_place s n (left_at t p) ≡ leave_place t n s (shown (Some p))
+pub left_here : (t : List ℕ) (s : Stored) (n : CtxNum) (p : Place ContextRecord) → finite.get s.contexts n.0 ≡ Some p → put_ctx_place s n (left_at t p) ≡ leave_place t n s (visible (Some p))
 left_here t s n Empty e = same_ctx_place s n Empty e
 left_here t s n (Here c) e = refl
 left_here t s n Out e = same_ctx_place s n Out e

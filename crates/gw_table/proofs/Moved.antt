@@ -14,7 +14,7 @@ use Rattle.gw_table.specs.declared.place.Place.{Place}
 use Rattle.gw_table.specs.declared.place.Place.TheVariants.{Out}
 use Rattle.gw_table.specs.Maps.{term, ctx, no_maps}
 use Rattle.gw_table.specs.Parts.{restricted, cut, overlaid}
-use Rattle.gw_table.specs.Stored.{Stored, shown, has_left, or_empty, maps_of, is_ready, is_out, names_entry, with_out, with_place_of, AreMoved, AreReady, AreIn, AreOut, AreAsReady, AreAsOut, NoneIsOut, WentOut, CameBack, ArePacked, AreBlank}
+use Rattle.gw_table.specs.Stored.{Stored, visible, has_left, or_empty, maps_of, is_ready, is_out, names_entry, with_out, with_place_of, AreMoved, AreReady, AreIn, AreOut, AreAsReady, AreAsOut, NoneIsOut, WentOut, CameBack, ArePacked, AreBlank}
 use Rattle.gw_table.proofs.Lookups.{same_maps}
 use Rattle.gw_table.proofs.PartLookups.{term-restricted, ctx-restricted, term-cut, ctx-cut, term-overlaid, ctx-overlaid}
 use Rattle.gw_table.proofs.Places.{term-maps_of, ctx-maps_of, got_term, got_ctx}
@@ -146,30 +146,30 @@ module _ (keys : List Key) (from to left full : Stored) (m : AreMoved keys from 
 
   -- ---- the entries
 
-  without_entry : {A : Type 0} (h : Bool) (o : Option (Place A)) → shown (cond h (Some Out) o) ≡ cond h None (shown o)
+  without_entry : {A : Type 0} (h : Bool) (o : Option (Place A)) → visible (cond h (Some Out) o) ≡ cond h None (visible o)
   without_entry true o = refl
   without_entry false o = refl
 
-  either_entry : {A : Type 0} (h : Bool) (o p : Option (Place A)) → shown (cond h o p) ≡ cond h (shown o) (shown p)
+  either_entry : {A : Type 0} (h : Bool) (o p : Option (Place A)) → visible (cond h o p) ≡ cond h (visible o) (visible p)
   either_entry true o p = refl
   either_entry false o p = refl
 
   pub maps_left : maps_of left ≡ cut keys (maps_of from)
   maps_left = same_maps (maps_of left) (cut keys (maps_of from))
-      (λ t. term-maps_of left t ∙ ap (λ o. shown o) (m.terms_left t) ∙ without_entry (has keys (Term t)) (finite.get from.terms t) ∙ ap (cond (has keys (Term t)) None) (sym (term-maps_of from t)) ∙ sym (term-cut keys (maps_of from) t))
-      (λ n. ctx-maps_of left n ∙ ap (λ o. shown o) (m.contexts_left n) ∙ without_entry (has keys (Ctx n)) (finite.get from.contexts n.0) ∙ ap (cond (has keys (Ctx n)) None) (sym (ctx-maps_of from n)) ∙ sym (ctx-cut keys (maps_of from) n))
+      (λ t. term-maps_of left t ∙ ap (λ o. visible o) (m.terms_left t) ∙ without_entry (has keys (Term t)) (finite.get from.terms t) ∙ ap (cond (has keys (Term t)) None) (sym (term-maps_of from t)) ∙ sym (term-cut keys (maps_of from) t))
+      (λ n. ctx-maps_of left n ∙ ap (λ o. visible o) (m.contexts_left n) ∙ without_entry (has keys (Ctx n)) (finite.get from.contexts n.0) ∙ ap (cond (has keys (Ctx n)) None) (sym (ctx-maps_of from n)) ∙ sym (ctx-cut keys (maps_of from) n))
 
   pub maps_full : maps_of full ≡ overlaid keys (maps_of from) (maps_of to)
   maps_full = same_maps (maps_of full) (overlaid keys (maps_of from) (maps_of to))
-      (λ t. term-maps_of full t ∙ ap (λ o. shown o) (m.terms_full t) ∙ either_entry (has keys (Term t)) (finite.get from.terms t) (finite.get to.terms t) ∙ sym (λ i. cond (has keys (Term t)) (term-maps_of from t i) (term-maps_of to t i)) ∙ sym (term-overlaid keys (maps_of from) (maps_of to) t))
-      (λ n. ctx-maps_of full n ∙ ap (λ o. shown o) (m.contexts_full n) ∙ either_entry (has keys (Ctx n)) (finite.get from.contexts n.0) (finite.get to.contexts n.0) ∙ sym (λ i. cond (has keys (Ctx n)) (ctx-maps_of from n i) (ctx-maps_of to n i)) ∙ sym (ctx-overlaid keys (maps_of from) (maps_of to) n))
+      (λ t. term-maps_of full t ∙ ap (λ o. visible o) (m.terms_full t) ∙ either_entry (has keys (Term t)) (finite.get from.terms t) (finite.get to.terms t) ∙ sym (λ i. cond (has keys (Term t)) (term-maps_of from t i) (term-maps_of to t i)) ∙ sym (term-overlaid keys (maps_of from) (maps_of to) t))
+      (λ n. ctx-maps_of full n ∙ ap (λ o. visible o) (m.contexts_full n) ∙ either_entry (has keys (Ctx n)) (finite.get from.contexts n.0) (finite.get to.contexts n.0) ∙ sym (λ i. cond (has keys (Ctx n)) (ctx-maps_of from n i) (ctx-maps_of to n i)) ∙ sym (ctx-overlaid keys (maps_of from) (maps_of to) n))
 
   -- what came to empty places is all that is there
   pub maps_part : maps_of to ≡ no_maps → maps_of full ≡ restricted keys (maps_of from)
   maps_part none = same_maps (maps_of full) (restricted keys (maps_of from))
-      (λ t. term-maps_of full t ∙ ap (λ o. shown o) (m.terms_full t) ∙ either_entry (has keys (Term t)) (finite.get from.terms t) (finite.get to.terms t)
+      (λ t. term-maps_of full t ∙ ap (λ o. visible o) (m.terms_full t) ∙ either_entry (has keys (Term t)) (finite.get from.terms t) (finite.get to.terms t)
       ∙ sym (λ i. cond (has keys (Term t)) (term-maps_of from t i) (term-maps_of to t i)) ∙ ap (cond (has keys (Term t)) (term (maps_of from) t)) (ap (λ x. term x t) none ∙ get-empty name_cmp t) ∙ sym (term-restricted keys (maps_of from) t))
-      (λ n. ctx-maps_of full n ∙ ap (λ o. shown o) (m.contexts_full n) ∙ either_entry (has keys (Ctx n)) (finite.get from.contexts n.0) (finite.get to.contexts n.0)
+      (λ n. ctx-maps_of full n ∙ ap (λ o. visible o) (m.contexts_full n) ∙ either_entry (has keys (Ctx n)) (finite.get from.contexts n.0) (finite.get to.contexts n.0)
       ∙ sym (λ i. cond (has keys (Ctx n)) (ctx-maps_of from n i) (ctx-maps_of to n i)) ∙ ap (cond (has keys (Ctx n)) (ctx (maps_of from) n)) (ap (λ x. ctx x n) none ∙ get-empty nat_cmp n.0) ∙ sym (ctx-restricted keys (maps_of from) n))
 
   -- ---- a part

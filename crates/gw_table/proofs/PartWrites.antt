@@ -16,7 +16,7 @@ use Rattle.gw_table.specs.KeyLists.{IsInOrder}
 use Rattle.gw_table.specs.Maps.{Maps, number, term, ctx, put_term, put_ctx, names, numbers, context_of}
 use Rattle.gw_table.specs.Members.{unless_empty}
 use Rattle.gw_table.specs.Parts.{Parted, Only, IsPart}
-use Rattle.gw_table.specs.Stored.{Stored, shown, has_left, placed, maps_of, put_term_place, put_ctx_place, ArePacked}
+use Rattle.gw_table.specs.Stored.{Stored, visible, has_left, placed, maps_of, put_term_place, put_ctx_place, ArePacked}
 use Rattle.gw_table.proofs.Celled.{term_here, ctx_here, set_cell, packed_part}
 use Rattle.gw_table.proofs.Lookups.{put_ctx-put_ctx}
 use Rattle.gw_table.proofs.Picked.{name_in, number_in, has_name, has_number, picked, names_picked, numbers_picked}
@@ -54,13 +54,13 @@ module _ (keys : List Key) (i : ℕ) (k : Key) (order : IsInOrder keys) (found :
   held = ap (λ x. has keys x) (sym found.1) ∙ has_at keys i k found.0
 
 module _ (keys : List Key) (cells : List Cell) (i : ℕ) (f : IsFilled keys cells) where
-  pub stood_term : (t : List ℕ) (e : Cell) → IsFound keys (Term t) (Some i) → shown (Some (cell_term (get_or cells i e))) ≡ term (maps_of (celled keys cells)) t
+  pub stood_term : (t : List ℕ) (e : Cell) → IsFound keys (Term t) (Some i) → visible (Some (cell_term (get_or cells i e))) ≡ term (maps_of (celled keys cells)) t
   stood_term t e found =
-      ap (λ o. shown o) (sym (term_here keys cells i t (Term t) e f.1 found.0 (first keys i (Term t) f.0 found) found.1)) ∙ sym (term-maps_of (celled keys cells) t)
+      ap (λ o. visible o) (sym (term_here keys cells i t (Term t) e f.1 found.0 (first keys i (Term t) f.0 found) found.1)) ∙ sym (term-maps_of (celled keys cells) t)
 
-  pub stood_ctx : (n : CtxNum) (e : Cell) → IsFound keys (Ctx n) (Some i) → shown (Some (cell_ctx (get_or cells i e))) ≡ ctx (maps_of (celled keys cells)) n
+  pub stood_ctx : (n : CtxNum) (e : Cell) → IsFound keys (Ctx n) (Some i) → visible (Some (cell_ctx (get_or cells i e))) ≡ ctx (maps_of (celled keys cells)) n
   stood_ctx n e found =
-      ap (λ o. shown o) (sym (ctx_here keys cells i n (Ctx n) e f.1 found.0 (first keys i (Ctx n) f.0 found) found.1)) ∙ sym (ctx-maps_of (celled keys cells) n)
+      ap (λ o. visible o) (sym (ctx_here keys cells i n (Ctx n) e f.1 found.0 (first keys i (Ctx n) f.0 found) found.1)) ∙ sym (ctx-maps_of (celled keys cells) n)
 
   -- ---- what is set there
 
@@ -112,6 +112,6 @@ pub set_again : (m out new : Maps) (n : CtxNum) (o : Option ContextRecord) → o
 set_again m out new n o taken set = set ∙ ap (λ (x : Maps). put_ctx x n o) taken ∙ put_ctx-put_ctx m n None o
 
 -- who leaves what stands in a place
-pub left_there : (t : List ℕ) (o : Option ContextRecord) → shown (Some (left_at t (placed o))) ≡ unless_empty (left t (context_of o))
+pub left_there : (t : List ℕ) (o : Option ContextRecord) → visible (Some (left_at t (placed o))) ≡ unless_empty (left t (context_of o))
 left_there t None = refl
 left_there t (Some c) = shown_placed (unless_empty (left t c))

@@ -21,7 +21,7 @@ use Rattle.gw_table.specs.declared.place.Place.{Place}
 use Rattle.gw_table.specs.KeyLists.{key_cmp, IsInOrder}
 use Rattle.gw_table.specs.Maps.{Maps, number, term, ctx, names, numbers}
 use Rattle.gw_table.specs.Parts.{Only, IsPart}
-use Rattle.gw_table.specs.Stored.{shown, placed, filled}
+use Rattle.gw_table.specs.Stored.{visible, placed, filled}
 use Rattle.gw_table.proofs.Shown.{here, one_here, keys_here, here_is, got_filled}
 
 tied : (r : Ordering) → is_eq r ≡ true → r ≡ Equal
@@ -46,11 +46,11 @@ module _ {K X : Type 0} {R : K → K → Ordering} (total : IsTotalOrder R) (exa
       by true c e = ap (λ (o : Option X). Some (placed o)) (get_tied total f q k (tied (R q k) e))
       by false c e = refl
 
-  if_there : (o : Option X) → shown (cond (is_some o) (Some (placed o)) None) ≡ o
+  if_there : (o : Option X) → visible (cond (is_some o) (Some (placed o)) None) ≡ o
   if_there None = refl
   if_there (Some x) = refl
 
-  one_key : (k : K) (o : Option X) (es : List (K × X)) → is_some o ≡ true → map (λ e. e.0) (one_here k (shown (Some (placed o))) ++ es) ≡ k ∷ map (λ e. e.0) es
+  one_key : (k : K) (o : Option X) (es : List (K × X)) → is_some o ≡ true → map (λ e. e.0) (one_here k (visible (Some (placed o))) ++ es) ≡ k ∷ map (λ e. e.0) es
   one_key k None es h = absurd cc
   one_key k (Some x) es h = refl
 
@@ -64,7 +64,7 @@ module _ {K X : Type 0} {R : K → K → Ordering} (total : IsTotalOrder R) (exa
   pub keys_are : (l : List K) → IsStrictlySortedBy R l → ((q : K) → list_any (eq_by_cmp R q) l ≡ is_some (get f q)) → keys f ≡ l
   keys_are l s has =
       let same : filled {R = R} (places l) ≡ f =
-      same_map total exact (filled (places l)) f (λ q. got_filled total (places l) q ∙ ap (λ o. shown o) (found_place l q ∙ ap (λ b. cond b (Some (placed (get f q))) None) (has q)) ∙ if_there (get f q)) in
+      same_map total exact (filled (places l)) f (λ q. got_filled total (places l) q ∙ ap (λ o. visible o) (found_place l q ∙ ap (λ b. cond b (Some (placed (get f q))) None) (has q)) ∙ if_there (get f q)) in
       ap (λ (m : FinMap R X). keys m) (sym same) ∙ ap (λ (es : List (K × X)). map (λ e. e.0) es) (here_is total exact (places l) (subst (λ (x : List K). IsStrictlySortedBy R x) (sym (keys_of_places l)) s))
       ∙ all_there l (λ q e. sym (has q) ∙ e)
 

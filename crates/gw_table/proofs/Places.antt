@@ -16,28 +16,28 @@ use Rattle.gw_ctx.specs.Contexts.{ContextRecord}
 use Rattle.gw_table.specs.declared.place.Place.{Place}
 use Rattle.gw_table.specs.declared.place.Place.TheVariants.{Empty, Here, Out}
 use Rattle.gw_table.specs.Maps.{term, ctx, put_term, put_ctx, no_maps}
-use Rattle.gw_table.specs.Stored.{Stored, shown, has_left, placed, served, emptied, without_ctx, maps_of, is_ready, is_out, put_term_place, put_ctx_place, with_service, nothing_stored, NoneIsOut, AreAsOut, AreSwept}
+use Rattle.gw_table.specs.Stored.{Stored, visible, has_left, placed, served, emptied, without_ctx, maps_of, is_ready, is_out, put_term_place, put_ctx_place, with_service, nothing_stored, NoneIsOut, AreAsOut, AreSwept}
 use Rattle.gw_table.proofs.Lookups.{term-put_term, ctx-put_term, term-put_ctx, ctx-put_ctx, same_maps}
-use Rattle.gw_table.proofs.Shown.{got_shown, shown-cond}
+use Rattle.gw_table.proofs.Shown.{got_shown, visible-cond}
 
-pub term-maps_of : (s : Stored) (t : List ℕ) → term (maps_of s) t ≡ shown (finite.get s.terms t)
+pub term-maps_of : (s : Stored) (t : List ℕ) → term (maps_of s) t ≡ visible (finite.get s.terms t)
 unfolding maps_of
 term-maps_of s t = got_shown nat_list_cmp_total s.terms t
 
-pub ctx-maps_of : (s : Stored) (n : CtxNum) → ctx (maps_of s) n ≡ shown (finite.get s.contexts n.0)
+pub ctx-maps_of : (s : Stored) (n : CtxNum) → ctx (maps_of s) n ≡ visible (finite.get s.contexts n.0)
 unfolding maps_of
 ctx-maps_of s n = got_shown nat_cmp_total s.contexts n.0
 
 -- tables that show the same entries are seen as the same maps
-pub shown_alike : (a b : Stored) → ((t : List ℕ) → shown (finite.get a.terms t) ≡ shown (finite.get b.terms t)) → ((n : CtxNum) → shown (finite.get a.contexts n.0) ≡ shown (finite.get b.contexts n.0)) → maps_of a ≡ maps_of b
+pub shown_alike : (a b : Stored) → ((t : List ℕ) → visible (finite.get a.terms t) ≡ visible (finite.get b.terms t)) → ((n : CtxNum) → visible (finite.get a.contexts n.0) ≡ visible (finite.get b.contexts n.0)) → maps_of a ≡ maps_of b
 shown_alike a b ts cs = same_maps (maps_of a) (maps_of b) (λ t. term-maps_of a t ∙ ts t ∙ sym (term-maps_of b t)) (λ n. ctx-maps_of a n ∙ cs n ∙ sym (ctx-maps_of b n))
 
 -- ---- no places
 
 pub maps_of_nothing : maps_of nothing_stored ≡ no_maps
 maps_of_nothing = same_maps (maps_of nothing_stored) no_maps
-    (λ t. term-maps_of nothing_stored t ∙ ap (λ o. shown o) (get-empty name_cmp t) ∙ sym (get-empty name_cmp t))
-    (λ n. ctx-maps_of nothing_stored n ∙ ap (λ o. shown o) (get-empty nat_cmp n.0) ∙ sym (get-empty nat_cmp n.0))
+    (λ t. term-maps_of nothing_stored t ∙ ap (λ o. visible o) (get-empty name_cmp t) ∙ sym (get-empty name_cmp t))
+    (λ n. ctx-maps_of nothing_stored n ∙ ap (λ o. visible o) (get-empty nat_cmp n.0) ∙ sym (get-empty nat_cmp n.0))
 
 pub nothing_out : NoneIsOut nothing_stored
 nothing_out (Term t) = ap (λ o. has_left o) (get-empty name_cmp t)
@@ -45,8 +45,8 @@ nothing_out (Ctx n) = ap (λ o. has_left o) (get-empty nat_cmp n.0)
 nothing_out Whole = refl
 
 pub nothing_swept : AreSwept nothing_stored
-nothing_swept (Term t) = ap (λ o. is_some o) (get-empty name_cmp t) ∙ sym (ap (λ o. is_some o) (term-maps_of nothing_stored t ∙ ap (λ o. shown o) (get-empty name_cmp t)))
-nothing_swept (Ctx n) = ap (λ o. is_some o) (get-empty nat_cmp n.0) ∙ sym (ap (λ o. is_some o) (ctx-maps_of nothing_stored n ∙ ap (λ o. shown o) (get-empty nat_cmp n.0)))
+nothing_swept (Term t) = ap (λ o. is_some o) (get-empty name_cmp t) ∙ sym (ap (λ o. is_some o) (term-maps_of nothing_stored t ∙ ap (λ o. visible o) (get-empty name_cmp t)))
+nothing_swept (Ctx n) = ap (λ o. is_some o) (get-empty nat_cmp n.0) ∙ sym (ap (λ o. is_some o) (ctx-maps_of nothing_stored n ∙ ap (λ o. visible o) (get-empty nat_cmp n.0)))
 nothing_swept Whole = refl
 
 -- ---- one place
@@ -57,17 +57,17 @@ got_term s t p q = get-insert nat_list_cmp_total s.terms t p q ∙ ap (λ b. con
 pub got_ctx : (s : Stored) (n : CtxNum) (p : Place ContextRecord) (q : CtxNum) → finite.get (put_ctx_place s n p).contexts q.0 ≡ cond (nat_eq q.0 n.0) (Some p) (finite.get s.contexts q.0)
 got_ctx s n p q = get-insert nat_cmp_total s.contexts n.0 p q.0 ∙ ap (λ b. cond b (Some p) (finite.get s.contexts q.0)) (number_test q.0 n.0)
 
-pub maps-put_term_place : (s : Stored) (t : List ℕ) (p : Place Termination) → maps_of (put_term_place s t p) ≡ put_term (maps_of s) t (shown (Some p))
-maps-put_term_place s t p = same_maps (maps_of (put_term_place s t p)) (put_term (maps_of s) t (shown (Some p)))
-    (λ q. term-maps_of (put_term_place s t p) q ∙ ap (λ o. shown o) (got_term s t p q) ∙ sym (shown-cond (bytes_eq q t) p (finite.get s.terms q))
-    ∙ ap (cond (bytes_eq q t) (shown (Some p))) (sym (term-maps_of s q)) ∙ sym (term-put_term (maps_of s) t (shown (Some p)) q))
-    (λ q. ctx-maps_of (put_term_place s t p) q ∙ sym (ctx-maps_of s q) ∙ sym (ctx-put_term (maps_of s) t (shown (Some p)) q))
+pub maps-put_term_place : (s : Stored) (t : List ℕ) (p : Place Termination) → maps_of (put_term_place s t p) ≡ put_term (maps_of s) t (visible (Some p))
+maps-put_term_place s t p = same_maps (maps_of (put_term_place s t p)) (put_term (maps_of s) t (visible (Some p)))
+    (λ q. term-maps_of (put_term_place s t p) q ∙ ap (λ o. visible o) (got_term s t p q) ∙ sym (visible-cond (bytes_eq q t) p (finite.get s.terms q))
+    ∙ ap (cond (bytes_eq q t) (visible (Some p))) (sym (term-maps_of s q)) ∙ sym (term-put_term (maps_of s) t (visible (Some p)) q))
+    (λ q. ctx-maps_of (put_term_place s t p) q ∙ sym (ctx-maps_of s q) ∙ sym (ctx-put_term (maps_of s) t (visible (Some p)) q))
 
-pub maps-put_ctx_place : (s : Stored) (n : CtxNum) (p : Place ContextRecord) → maps_of (put_ctx_place s n p) ≡ put_ctx (maps_of s) n (shown (Some p))
-maps-put_ctx_place s n p = same_maps (maps_of (put_ctx_place s n p)) (put_ctx (maps_of s) n (shown (Some p)))
-    (λ q. term-maps_of (put_ctx_place s n p) q ∙ sym (term-maps_of s q) ∙ sym (term-put_ctx (maps_of s) n (shown (Some p)) q))
-    (λ q. ctx-maps_of (put_ctx_place s n p) q ∙ ap (λ o. shown o) (got_ctx s n p q) ∙ sym (shown-cond (nat_eq q.0 n.0) p (finite.get s.contexts q.0))
-    ∙ ap (cond (nat_eq q.0 n.0) (shown (Some p))) (sym (ctx-maps_of s q)) ∙ sym (ctx-put_ctx (maps_of s) n (shown (Some p)) q))
+pub maps-put_ctx_place : (s : Stored) (n : CtxNum) (p : Place ContextRecord) → maps_of (put_ctx_place s n p) ≡ put_ctx (maps_of s) n (visible (Some p))
+maps-put_ctx_place s n p = same_maps (maps_of (put_ctx_place s n p)) (put_ctx (maps_of s) n (visible (Some p)))
+    (λ q. term-maps_of (put_ctx_place s n p) q ∙ sym (term-maps_of s q) ∙ sym (term-put_ctx (maps_of s) n (visible (Some p)) q))
+    (λ q. ctx-maps_of (put_ctx_place s n p) q ∙ ap (λ o. visible o) (got_ctx s n p q) ∙ sym (visible-cond (nat_eq q.0 n.0) p (finite.get s.contexts q.0))
+    ∙ ap (cond (nat_eq q.0 n.0) (visible (Some p))) (sym (ctx-maps_of s q)) ∙ sym (ctx-put_ctx (maps_of s) n (visible (Some p)) q))
 
 -- a place that is written as it is
 pub same_term_place : (s : Stored) (t : List ℕ) (p : Place Termination) → finite.get s.terms t ≡ Some p → put_term_place s t p ≡ s
@@ -79,7 +79,7 @@ same_term_place s t p e =
     at q true h = sym e ∙ ap (finite.get s.terms) (sym (same_name q t h))
     at q false h = refl
 
-pub served_here : (s : Stored) (t : List ℕ) (state : Service) (p : Place Termination) → finite.get s.terms t ≡ Some p → put_term_place s t (served state p) ≡ with_service state t s (shown (Some p))
+pub served_here : (s : Stored) (t : List ℕ) (state : Service) (p : Place Termination) → finite.get s.terms t ≡ Some p → put_term_place s t (served state p) ≡ with_service state t s (visible (Some p))
 served_here s t state Empty e = same_term_place s t Empty e
 served_here s t state (Here r) e = refl
 served_here s t state Out e = same_term_place s t Out e
@@ -94,13 +94,13 @@ same_ctx_place s n p e =
     at q true h = sym e ∙ ap (finite.get s.contexts) (sym (eqb-true q n.0 h))
     at q false h = refl
 
-pub emptied_here : (s : Stored) (n : CtxNum) (p : Place ContextRecord) → finite.get s.contexts n.0 ≡ Some p → put_ctx_place s n (emptied p) ≡ without_ctx n s (shown (Some p))
+pub emptied_here : (s : Stored) (n : CtxNum) (p : Place ContextRecord) → finite.get s.contexts n.0 ≡ Some p → put_ctx_place s n (emptied p) ≡ without_ctx n s (visible (Some p))
 emptied_here s n Empty e = same_ctx_place s n Empty e
 emptied_here s n (Here r) e = refl
 emptied_here s n Out e = same_ctx_place s n Out e
 
 -- a place of an entry, or of none
-pub shown_placed : {A : Type 0} (o : Option A) → shown (Some (placed o)) ≡ o
+pub shown_placed : {A : Type 0} (o : Option A) → visible (Some (placed o)) ≡ o
 shown_placed None = refl
 shown_placed (Some a) = refl
 
@@ -138,7 +138,7 @@ in-put_ctx s n p g h (Ctx q) = ap (λ o. has_left o) (got_ctx s n p q) ∙ in_st
 in-put_ctx s n p g h Whole = refl
 
 -- where each prepared key has an entry, it is so with one more entry
-swept_still : {A : Type 0} (b : Bool) (r : A) (x : Option (Place A)) → is_some x ≡ is_some (shown x) → is_some (cond b (Some (Here r)) x) ≡ is_some (shown (cond b (Some (Here r)) x))
+swept_still : {A : Type 0} (b : Bool) (r : A) (x : Option (Place A)) → is_some x ≡ is_some (visible x) → is_some (cond b (Some (Here r)) x) ≡ is_some (visible (cond b (Some (Here r)) x))
 swept_still true r x h = refl
 swept_still false r x h = h
 
@@ -146,7 +146,7 @@ pub swept-put_term : (s : Stored) (t : List ℕ) (r : Termination) → AreSwept 
 swept-put_term s t r h (Term q) =
     ap (λ o. is_some o) (got_term s t (Here r) q)
     ∙ swept_still (bytes_eq q t) r (finite.get s.terms q) (h (Term q) ∙ ap (λ o. is_some o) (term-maps_of s q))
-    ∙ sym (ap (λ o. is_some o) (term-maps_of (put_term_place s t (Here r)) q ∙ ap (λ o. shown o) (got_term s t (Here r) q)))
+    ∙ sym (ap (λ o. is_some o) (term-maps_of (put_term_place s t (Here r)) q ∙ ap (λ o. visible o) (got_term s t (Here r) q)))
 swept-put_term s t r h (Ctx q) = h (Ctx q) ∙ ap (λ o. is_some o) (ctx-maps_of s q ∙ sym (ctx-maps_of (put_term_place s t (Here r)) q))
 swept-put_term s t r h Whole = refl
 

@@ -24,7 +24,7 @@ use Rattle.gw_base.proofs.Views.{seen}
 use Rattle.gw_table.specs.declared.place.Place.{Place}
 use Rattle.gw_table.specs.declared.place.Place.TheVariants.{Empty, Here, Out}
 use Rattle.gw_table.specs.KeyLists.{key_cmp, IsInOrder}
-use Rattle.gw_table.specs.Stored.{Stored, shown, if_shown, has_left, maps_of, is_ready, is_out, put_term_place, put_ctx_place, ArePrepared, AreAsOut, NoneIsOut, AreSwept, KeepReady, AreReady, NoOtherReady, AreBlank, nothing_stored}
+use Rattle.gw_table.specs.Stored.{Stored, visible, if_visible, has_left, maps_of, is_ready, is_out, put_term_place, put_ctx_place, ArePrepared, AreAsOut, NoneIsOut, AreSwept, KeepReady, AreReady, NoOtherReady, AreBlank, nothing_stored}
 use Rattle.gw_table.proofs.KeyOrder.{key_test, same_key_is}
 use Rattle.gw_table.proofs.Moved.{has-pushed}
 use Rattle.gw_table.proofs.Places.{term-maps_of, ctx-maps_of, shown_alike, got_term, got_ctx, nothing_out, maps_of_nothing}
@@ -80,8 +80,8 @@ whole_there s = record { maps = refl; out = λ k. refl; ready = at }
 
 -- one that was not
 module _ {K A : Type 0} (f : K → Option (Place A)) (q t : K) (none : f t ≡ None) where
-  same_shown : (b : Bool) → (b ≡ true → q ≡ t) → shown (cond b (Some Empty) (f q)) ≡ shown (f q)
-  same_shown true is = sym (ap (λ y. shown (f y)) (is refl) ∙ ap (λ o. shown o) none)
+  same_shown : (b : Bool) → (b ≡ true → q ≡ t) → visible (cond b (Some Empty) (f q)) ≡ visible (f q)
+  same_shown true is = sym (ap (λ y. visible (f y)) (is refl) ∙ ap (λ o. visible o) none)
   same_shown false is = refl
 
   same_out : (b : Bool) → (b ≡ true → q ≡ t) → has_left (cond b (Some Empty) (f q)) ≡ has_left (f q)
@@ -94,7 +94,7 @@ module _ {K A : Type 0} (f : K → Option (Place A)) (q t : K) (none : f t ≡ N
 
 pub term_made : (s : Stored) (t : List ℕ) → finite.get s.terms t ≡ None → ArePrepared (Term t ∷ []) s (put_term_place s t Empty)
 term_made s t none = record {
-  maps = shown_alike (put_term_place s t Empty) s (λ q. ap (λ o. shown o) (got_term s t Empty q) ∙ same_shown (λ y. finite.get s.terms y) q t none (bytes_eq q t) (same_name q t)) (λ n. refl);
+  maps = shown_alike (put_term_place s t Empty) s (λ q. ap (λ o. visible o) (got_term s t Empty q) ∙ same_shown (λ y. finite.get s.terms y) q t none (bytes_eq q t) (same_name q t)) (λ n. refl);
   out = out;
   ready = ready;
 }
@@ -111,7 +111,7 @@ term_made s t none = record {
 
 pub ctx_made : (s : Stored) (n : CtxNum) → finite.get s.contexts n.0 ≡ None → ArePrepared (Ctx n ∷ []) s (put_ctx_place s n Empty)
 ctx_made s n none = record {
-  maps = shown_alike (put_ctx_place s n Empty) s (λ t. refl) (λ q. ap (λ o. shown o) (got_ctx s n Empty q) ∙ same_shown (λ (y : CtxNum). finite.get s.contexts y.0) q n none (nat_eq q.0 n.0) (same_number q n));
+  maps = shown_alike (put_ctx_place s n Empty) s (λ t. refl) (λ q. ap (λ o. visible o) (got_ctx s n Empty q) ∙ same_shown (λ (y : CtxNum). finite.get s.contexts y.0) q n none (nat_eq q.0 n.0) (same_number q n));
   out = out;
   ready = ready;
 }
@@ -169,22 +169,22 @@ blank keys a b start maps out ready alone = record {
 
 -- ---- places are swept
 
-pub swept : {K X : Type 0} {R : K → K → Ordering} (total : IsTotalOrder R) (es fs : List (K × Place X)) → ((q : K) → lookup (is_at (R q)) fs ≡ if_shown (lookup (is_at (R q)) es)) → (q : K) → get (from_entries {R = R} fs) q ≡ if_shown (get (from_entries {R = R} es) q)
-swept total es fs is q = seen total fs q ∙ is q ∙ ap (λ o. if_shown o) (sym (seen total es q))
+pub swept : {K X : Type 0} {R : K → K → Ordering} (total : IsTotalOrder R) (es fs : List (K × Place X)) → ((q : K) → lookup (is_at (R q)) fs ≡ if_visible (lookup (is_at (R q)) es)) → (q : K) → get (from_entries {R = R} fs) q ≡ if_visible (get (from_entries {R = R} es) q)
+swept total es fs is q = seen total fs q ∙ is q ∙ ap (λ o. if_visible o) (sym (seen total es q))
 
-pub shown_same : {A : Type 0} (o : Option (Place A)) → shown (if_shown o) ≡ shown o
+pub shown_same : {A : Type 0} (o : Option (Place A)) → visible (if_visible o) ≡ visible o
 shown_same None = refl
 shown_same (Some Empty) = refl
 shown_same (Some (Here a)) = refl
 shown_same (Some Out) = refl
 
-pub none_left : {A : Type 0} (o : Option (Place A)) → has_left (if_shown o) ≡ false
+pub none_left : {A : Type 0} (o : Option (Place A)) → has_left (if_visible o) ≡ false
 none_left None = refl
 none_left (Some Empty) = refl
 none_left (Some (Here a)) = refl
 none_left (Some Out) = refl
 
-only_shown : {A : Type 0} (o : Option (Place A)) → is_some (if_shown o) ≡ is_some (shown (if_shown o))
+only_shown : {A : Type 0} (o : Option (Place A)) → is_some (if_visible o) ≡ is_some (visible (if_visible o))
 only_shown None = refl
 only_shown (Some Empty) = refl
 only_shown (Some (Here a)) = refl
@@ -192,11 +192,11 @@ only_shown (Some Out) = refl
 
 -- only places with an entry are left
 pub record AreShown (a b : Stored) : Type 0 where
-  pub terms : (t : List ℕ) → finite.get b.terms t ≡ if_shown (finite.get a.terms t)
-  pub contexts : (n : CtxNum) → finite.get b.contexts n.0 ≡ if_shown (finite.get a.contexts n.0)
+  pub terms : (t : List ℕ) → finite.get b.terms t ≡ if_visible (finite.get a.terms t)
+  pub contexts : (n : CtxNum) → finite.get b.contexts n.0 ≡ if_visible (finite.get a.contexts n.0)
 
 pub swept_maps : (a b : Stored) → AreShown a b → maps_of b ≡ maps_of a
-swept_maps a b s = shown_alike b a (λ t. ap (λ o. shown o) (s.terms t) ∙ shown_same (finite.get a.terms t)) (λ n. ap (λ o. shown o) (s.contexts n) ∙ shown_same (finite.get a.contexts n.0))
+swept_maps a b s = shown_alike b a (λ t. ap (λ o. visible o) (s.terms t) ∙ shown_same (finite.get a.terms t)) (λ n. ap (λ o. visible o) (s.contexts n) ∙ shown_same (finite.get a.contexts n.0))
 
 pub swept_in : (a b : Stored) → AreShown a b → NoneIsOut b
 swept_in a b s (Term t) = ap (λ o. has_left o) (s.terms t) ∙ none_left (finite.get a.terms t)
@@ -204,8 +204,8 @@ swept_in a b s (Ctx n) = ap (λ o. has_left o) (s.contexts n) ∙ none_left (fin
 swept_in a b s Whole = refl
 
 pub swept_ready : (a b : Stored) → AreShown a b → AreSwept b
-swept_ready a b s (Term t) = ap (λ o. is_some o) (s.terms t) ∙ only_shown (finite.get a.terms t) ∙ ap (λ o. is_some (shown o)) (sym (s.terms t)) ∙ ap (λ o. is_some o) (sym (term-maps_of b t))
-swept_ready a b s (Ctx n) = ap (λ o. is_some o) (s.contexts n) ∙ only_shown (finite.get a.contexts n.0) ∙ ap (λ o. is_some (shown o)) (sym (s.contexts n)) ∙ ap (λ o. is_some o) (sym (ctx-maps_of b n))
+swept_ready a b s (Term t) = ap (λ o. is_some o) (s.terms t) ∙ only_shown (finite.get a.terms t) ∙ ap (λ o. is_some (visible o)) (sym (s.terms t)) ∙ ap (λ o. is_some o) (sym (term-maps_of b t))
+swept_ready a b s (Ctx n) = ap (λ o. is_some o) (s.contexts n) ∙ only_shown (finite.get a.contexts n.0) ∙ ap (λ o. is_some (visible o)) (sym (s.contexts n)) ∙ ap (λ o. is_some o) (sym (ctx-maps_of b n))
 swept_ready a b s Whole = refl
 
 -- ---- keys in order

@@ -11,15 +11,15 @@ use Rattle.gw_table.specs.declared.place.Place.{Place}
 use Rattle.gw_table.specs.declared.place.Place.TheVariants.{Empty, Here, Out}
 use Rattle.gw_table.specs.declared.setting.Setting.{Setting}
 use Rattle.gw_table.specs.Maps.{Maps, ctx, number, put_ctx}
-use Rattle.gw_table.specs.Marking.{AreMarked}
+use Rattle.gw_table.specs.Marking.{AreSet}
 use Rattle.gw_table.specs.Reserved.{slot_name}
 use Rattle.gw_table.specs.Settings.{with_setting, put_setting, set_at, set_place}
-use Rattle.gw_table.specs.Stored.{Stored, stored, shown, has_left, maps_of, is_ready, is_out, put_ctx_place, AreAsReady, AreAsOut}
+use Rattle.gw_table.specs.Stored.{Stored, stored, visible, has_left, maps_of, is_ready, is_out, put_ctx_place, AreAsReady, AreAsOut}
 use Rattle.gw_table.proofs.Exchanged.{ctx_written, ctx_seen}
 use Rattle.gw_table.proofs.Lookups.{ctx-put_ctx, term-put_ctx}
 use Rattle.gw_table.proofs.Places.{ctx-maps_of, same_ctx_place, maps-put_ctx_place, ready-put_ctx, out-put_ctx}
 
-pub set_here : (x : Setting) (s : Stored) (n : CtxNum) (p : Place ContextRecord) → finite.get s.contexts n.0 ≡ Some p → put_ctx_place s n (set_at x p) ≡ set_place x n s (shown (Some p))
+pub set_here : (x : Setting) (s : Stored) (n : CtxNum) (p : Place ContextRecord) → finite.get s.contexts n.0 ≡ Some p → put_ctx_place s n (set_at x p) ≡ set_place x n s (visible (Some p))
 set_here x s n Empty e = same_ctx_place s n Empty e
 set_here x s n (Here c) e = refl
 set_here x s n Out e = same_ctx_place s n Out e
@@ -29,10 +29,10 @@ maps-set_place x n s None = refl
 maps-set_place x n s (Some c) = maps-put_ctx_place s n (Here (with_setting x c))
 
 -- an entry that stands as before keeps its mark
-pub marked-set_still : (numbers slots : List ℕ) (m : Maps) (n : CtxNum) (o : Option ContextRecord) → (is_some (ctx m n) ≡ true → is_some o ≡ true) → AreMarked numbers slots m → AreMarked numbers slots (put_ctx m n o)
-marked-set_still numbers slots m n o still marked = record {
-  contexts = λ k h. ap (λ x. is_some x) (ctx-put_ctx m n o (number k)) ∙ either k (nat_eq k n.0) refl (marked.contexts k h);
-  terms = λ s l h. ap (λ x. is_some x) (term-put_ctx m n o (slot_name s)) ∙ marked.terms s l h;
+pub in_use-set_still : (numbers slots : List ℕ) (m : Maps) (n : CtxNum) (o : Option ContextRecord) → (is_some (ctx m n) ≡ true → is_some o ≡ true) → AreSet numbers slots m → AreSet numbers slots (put_ctx m n o)
+in_use-set_still numbers slots m n o still in_use = record {
+  contexts = λ k h. ap (λ x. is_some x) (ctx-put_ctx m n o (number k)) ∙ either k (nat_eq k n.0) refl (in_use.contexts k h);
+  terms = λ s l h. ap (λ x. is_some x) (term-put_ctx m n o (slot_name s)) ∙ in_use.terms s l h;
 }
   where
     either : (k : ℕ) (b : Bool) → nat_eq k n.0 ≡ b → is_some (ctx m (number k)) ≡ true → is_some (cond b o (ctx m (number k))) ≡ true
@@ -43,7 +43,7 @@ marked-set_still numbers slots m n o still marked = record {
 pub ready-set_place : (x : Setting) (n : CtxNum) (s : Stored) → AreAsReady s (set_place x n s (ctx (maps_of s) n))
 ready-set_place x n s k = by (ctx (maps_of s) n) refl k
   where
-    there : (o : Option (Place ContextRecord)) (c : ContextRecord) → Some c ≡ shown o → is_some o ≡ true
+    there : (o : Option (Place ContextRecord)) (c : ContextRecord) → Some c ≡ visible o → is_some o ≡ true
     there None c e = absurd cc
     there (Some p) c e = refl
 
@@ -54,7 +54,7 @@ ready-set_place x n s k = by (ctx (maps_of s) n) refl k
 pub out-set_place : (x : Setting) (n : CtxNum) (s : Stored) → AreAsOut s (set_place x n s (ctx (maps_of s) n))
 out-set_place x n s k = by (ctx (maps_of s) n) refl k
   where
-    here : (o : Option (Place ContextRecord)) (c : ContextRecord) → Some c ≡ shown o → has_left o ≡ false
+    here : (o : Option (Place ContextRecord)) (c : ContextRecord) → Some c ≡ visible o → has_left o ≡ false
     here None c e = refl
     here (Some Empty) c e = refl
     here (Some (Here d)) c e = refl
@@ -66,7 +66,7 @@ out-set_place x n s k = by (ctx (maps_of s) n) refl k
 
 -- ---- one place of the ordered map is set
 
-stands_still : (x : Setting) (p : Place ContextRecord) → is_some (shown (Some p)) ≡ is_some (shown (Some (set_at x p)))
+stands_still : (x : Setting) (p : Place ContextRecord) → is_some (visible (Some p)) ≡ is_some (visible (Some (set_at x p)))
 stands_still x Empty = refl
 stands_still x (Here r) = refl
 stands_still x Out = refl
@@ -85,11 +85,11 @@ module _ (ts : List (List ℕ × Place Termination)) (es fs : List (ℕ × Place
 
   module _ (x : Setting) (set : new ≡ set_at x p) where
     pub place_set : stored ts fs ≡ set_place x n now (ctx (maps_of now) n)
-    place_set = place_written ∙ ap (put_ctx_place now n) set ∙ set_here x now n p stood ∙ ap (λ (o : Option ContextRecord). set_place x n now o) (ap (λ o. shown o) (sym stood) ∙ sym (ctx-maps_of now n))
+    place_set = place_written ∙ ap (put_ctx_place now n) set ∙ set_here x now n p stood ∙ ap (λ (o : Option ContextRecord). set_place x n now o) (ap (λ o. visible o) (sym stood) ∙ sym (ctx-maps_of now n))
 
-    pub marks_set : (numbers slots : List ℕ) → AreMarked numbers slots (maps_of (stored ts es)) → AreMarked numbers slots (maps_of (stored ts fs))
-    marks_set numbers slots marked =
-        subst (λ (m : Maps). AreMarked numbers slots m) (sym (ap (λ s. maps_of s) (place_written ∙ ap (put_ctx_place now n) set) ∙ maps-put_ctx_place now n (set_at x p)))
-        (marked-set_still numbers slots (maps_of now) n (shown (Some (set_at x p)))
-        (λ h. sym (stands_still x p) ∙ ap (λ o. is_some (shown o)) (sym stood) ∙ sym (ap (λ o. is_some o) (ctx-maps_of now n)) ∙ h)
-        (subst (λ (s : Stored). AreMarked numbers slots (maps_of s)) is marked))
+    pub marks_set : (numbers slots : List ℕ) → AreSet numbers slots (maps_of (stored ts es)) → AreSet numbers slots (maps_of (stored ts fs))
+    marks_set numbers slots in_use =
+        subst (λ (m : Maps). AreSet numbers slots m) (sym (ap (λ s. maps_of s) (place_written ∙ ap (put_ctx_place now n) set) ∙ maps-put_ctx_place now n (set_at x p)))
+        (in_use-set_still numbers slots (maps_of now) n (visible (Some (set_at x p)))
+        (λ h. sym (stands_still x p) ∙ ap (λ o. is_some (visible o)) (sym stood) ∙ sym (ap (λ o. is_some o) (ctx-maps_of now n)) ∙ h)
+        (subst (λ (s : Stored). AreSet numbers slots (maps_of s)) is in_use))

@@ -7,57 +7,57 @@ use Rattle.std.specs.FinMap.{get-remove}
 use Rattle.gw_base.specs.declared.ids.CtxNum.{CtxNum}
 use Rattle.gw_base.proofs.NameTests.{name_test, number_test, same_name, name_itself}
 use Rattle.gw_ctx.specs.Contexts.{ContextRecord}
-use Rattle.gw_marks.specs.Marked.{is_marked, IsBlank}
+use Rattle.gw_bits.specs.BitSets.{has_bit, IsBlank}
 use Rattle.gw_term.specs.declared.record.Termination.{Termination}
 use Rattle.gw_table.specs.declared.place.Place.{Place}
 use Rattle.gw_table.specs.Maps.{Maps, term, ctx, number, put_term, put_ctx}
-use Rattle.gw_table.specs.Marking.{AreMarked, IsNumberSet, IsSlotSet}
+use Rattle.gw_table.specs.Marking.{AreSet, IsNumberSet, IsSlotSet}
 use Rattle.gw_table.specs.Reserved.{slot_name}
-use Rattle.gw_table.specs.Stored.{Stored, shown, maps_of, put_term_place, put_ctx_place, drop_term_place, drop_ctx_place}
+use Rattle.gw_table.specs.Stored.{Stored, visible, maps_of, put_term_place, put_ctx_place, drop_term_place, drop_ctx_place}
 use Rattle.gw_table.proofs.Lookups.{term-put_term, ctx-put_term, term-put_ctx, ctx-put_ctx, same_maps}
 use Rattle.gw_table.proofs.Places.{term-maps_of, ctx-maps_of, maps-put_term_place, maps-put_ctx_place}
 
 -- nothing is marked
-pub none_marked : (numbers slots : List ℕ) (m : Maps) → IsBlank numbers → IsBlank slots → AreMarked numbers slots m
+pub none_marked : (numbers slots : List ℕ) (m : Maps) → IsBlank numbers → IsBlank slots → AreSet numbers slots m
 none_marked numbers slots m a b = record {
   contexts = λ n h. let clash : true ≡ false = sym h ∙ a n in absurd cc;
   terms = λ s l h. let clash : true ≡ false = sym h ∙ b s in absurd cc;
 }
 
 -- the maps are the same
-pub marked_still : (numbers slots : List ℕ) (m n : Maps) → n ≡ m → AreMarked numbers slots m → AreMarked numbers slots n
-marked_still numbers slots m n e h = subst (λ (x : Maps). AreMarked numbers slots x) (sym e) h
+pub marked_still : (numbers slots : List ℕ) (m n : Maps) → n ≡ m → AreSet numbers slots m → AreSet numbers slots n
+marked_still numbers slots m n e h = subst (λ (x : Maps). AreSet numbers slots x) (sym e) h
 
 -- ---- one entry, whose bit was set or cleared
 
-module _ (numbers slots new : List ℕ) (m : Maps) (marked : AreMarked numbers slots m) where
-  number_stands : (n : CtxNum) (o : Option ContextRecord) → IsNumberSet n.0 (is_some o) numbers new → (k : ℕ) → is_marked new k ≡ true → (b : Bool) → nat_eq k n.0 ≡ b → is_some (cond b o (ctx m (number k))) ≡ true
-  number_stands n o set k h true e = set.own (ap (λ x. is_marked new x) (sym (eqb-true k n.0 e)) ∙ h)
+module _ (numbers slots new : List ℕ) (m : Maps) (in_use : AreSet numbers slots m) where
+  number_stands : (n : CtxNum) (o : Option ContextRecord) → IsNumberSet n.0 (is_some o) numbers new → (k : ℕ) → has_bit new k ≡ true → (b : Bool) → nat_eq k n.0 ≡ b → is_some (cond b o (ctx m (number k))) ≡ true
+  number_stands n o set k h true e = set.own (ap (λ x. has_bit new x) (sym (eqb-true k n.0 e)) ∙ h)
   number_stands n o set k h false e =
-      marked.contexts k (sym (set.others k (λ same. let clash : true ≡ false = sym (eq-eqb k n.0 same) ∙ e in cc)) ∙ h)
+      in_use.contexts k (sym (set.others k (λ same. let clash : true ≡ false = sym (eq-eqb k n.0 same) ∙ e in cc)) ∙ h)
 
-  pub marked-put_ctx : (n : CtxNum) (o : Option ContextRecord) → IsNumberSet n.0 (is_some o) numbers new → AreMarked new slots (put_ctx m n o)
-  marked-put_ctx n o set = record {
+  pub in_use-put_ctx : (n : CtxNum) (o : Option ContextRecord) → IsNumberSet n.0 (is_some o) numbers new → AreSet new slots (put_ctx m n o)
+  in_use-put_ctx n o set = record {
     contexts = λ k h. ap (λ x. is_some x) (ctx-put_ctx m n o (number k)) ∙ number_stands n o set k h (nat_eq k n.0) refl;
-    terms = λ s l h. ap (λ x. is_some x) (term-put_ctx m n o (slot_name s)) ∙ marked.terms s l h;
+    terms = λ s l h. ap (λ x. is_some x) (term-put_ctx m n o (slot_name s)) ∙ in_use.terms s l h;
   }
 
-  slot_stands : (t : List ℕ) (o : Option Termination) → IsSlotSet t (is_some o) slots new → (s : ℕ) → s < 4096 → is_marked new s ≡ true → (b : Bool) → bytes_eq (slot_name s) t ≡ b → is_some (cond b o (term m (slot_name s))) ≡ true
+  slot_stands : (t : List ℕ) (o : Option Termination) → IsSlotSet t (is_some o) slots new → (s : ℕ) → s < 4096 → has_bit new s ≡ true → (b : Bool) → bytes_eq (slot_name s) t ≡ b → is_some (cond b o (term m (slot_name s))) ≡ true
   slot_stands t o set s l h true e = set.own s l (same_name (slot_name s) t e) h
   slot_stands t o set s l h false e =
-      marked.terms s l (sym (set.others s l (λ same. let clash : true ≡ false = sym (name_itself (slot_name s) t same) ∙ e in cc)) ∙ h)
+      in_use.terms s l (sym (set.others s l (λ same. let clash : true ≡ false = sym (name_itself (slot_name s) t same) ∙ e in cc)) ∙ h)
 
-  pub marked-put_term : (t : List ℕ) (o : Option Termination) → IsSlotSet t (is_some o) slots new → AreMarked numbers new (put_term m t o)
-  marked-put_term t o set = record {
-    contexts = λ k h. ap (λ x. is_some x) (ctx-put_term m t o (number k)) ∙ marked.contexts k h;
+  pub in_use-put_term : (t : List ℕ) (o : Option Termination) → IsSlotSet t (is_some o) slots new → AreSet numbers new (put_term m t o)
+  in_use-put_term t o set = record {
+    contexts = λ k h. ap (λ x. is_some x) (ctx-put_term m t o (number k)) ∙ in_use.contexts k h;
     terms = λ s l h. ap (λ x. is_some x) (term-put_term m t o (slot_name s)) ∙ slot_stands t o set s l h (bytes_eq (slot_name s) t) refl;
   }
 
 -- an entry that comes to stand, or stands as before, keeps its mark
-pub marked-put_still : (numbers slots : List ℕ) (m : Maps) (t : List ℕ) (o : Option Termination) → (is_some (term m t) ≡ true → is_some o ≡ true) → AreMarked numbers slots m → AreMarked numbers slots (put_term m t o)
-marked-put_still numbers slots m t o still marked = record {
-  contexts = λ k h. ap (λ x. is_some x) (ctx-put_term m t o (number k)) ∙ marked.contexts k h;
-  terms = λ s l h. ap (λ x. is_some x) (term-put_term m t o (slot_name s)) ∙ either s (bytes_eq (slot_name s) t) refl (marked.terms s l h);
+pub in_use-put_still : (numbers slots : List ℕ) (m : Maps) (t : List ℕ) (o : Option Termination) → (is_some (term m t) ≡ true → is_some o ≡ true) → AreSet numbers slots m → AreSet numbers slots (put_term m t o)
+in_use-put_still numbers slots m t o still in_use = record {
+  contexts = λ k h. ap (λ x. is_some x) (ctx-put_term m t o (number k)) ∙ in_use.contexts k h;
+  terms = λ s l h. ap (λ x. is_some x) (term-put_term m t o (slot_name s)) ∙ either s (bytes_eq (slot_name s) t) refl (in_use.terms s l h);
 }
   where
     either : (s : ℕ) (b : Bool) → bytes_eq (slot_name s) t ≡ b → is_some (term m (slot_name s)) ≡ true → is_some (cond b o (term m (slot_name s))) ≡ true
@@ -68,31 +68,31 @@ marked-put_still numbers slots m t o still marked = record {
 
 pub maps-drop_term_place : (s : Stored) (t : List ℕ) → maps_of (drop_term_place s t) ≡ put_term (maps_of s) t None
 maps-drop_term_place s t = same_maps (maps_of (drop_term_place s t)) (put_term (maps_of s) t None)
-    (λ q. term-maps_of (drop_term_place s t) q ∙ ap (λ o. shown o) (get-remove nat_list_cmp_total s.terms t q ∙ ap (λ b. cond b None (finite.get s.terms q)) (name_test q t)) ∙ shown_none (bytes_eq q t) (finite.get s.terms q)
+    (λ q. term-maps_of (drop_term_place s t) q ∙ ap (λ o. visible o) (get-remove nat_list_cmp_total s.terms t q ∙ ap (λ b. cond b None (finite.get s.terms q)) (name_test q t)) ∙ shown_none (bytes_eq q t) (finite.get s.terms q)
     ∙ ap (cond (bytes_eq q t) None) (sym (term-maps_of s q)) ∙ sym (term-put_term (maps_of s) t None q))
     (λ q. ctx-maps_of (drop_term_place s t) q ∙ sym (ctx-maps_of s q) ∙ sym (ctx-put_term (maps_of s) t None q))
   where
-    shown_none : {A : Type 0} (b : Bool) (o : Option (Place A)) → shown (cond b None o) ≡ cond b None (shown o)
+    shown_none : {A : Type 0} (b : Bool) (o : Option (Place A)) → visible (cond b None o) ≡ cond b None (visible o)
     shown_none true o = refl
     shown_none false o = refl
 
 pub maps-drop_ctx_place : (s : Stored) (n : CtxNum) → maps_of (drop_ctx_place s n) ≡ put_ctx (maps_of s) n None
 maps-drop_ctx_place s n = same_maps (maps_of (drop_ctx_place s n)) (put_ctx (maps_of s) n None)
     (λ q. term-maps_of (drop_ctx_place s n) q ∙ sym (term-maps_of s q) ∙ sym (term-put_ctx (maps_of s) n None q))
-    (λ q. ctx-maps_of (drop_ctx_place s n) q ∙ ap (λ o. shown o) (get-remove nat_cmp_total s.contexts n.0 q.0 ∙ ap (λ b. cond b None (finite.get s.contexts q.0)) (number_test q.0 n.0)) ∙ shown_none (nat_eq q.0 n.0) (finite.get s.contexts q.0)
+    (λ q. ctx-maps_of (drop_ctx_place s n) q ∙ ap (λ o. visible o) (get-remove nat_cmp_total s.contexts n.0 q.0 ∙ ap (λ b. cond b None (finite.get s.contexts q.0)) (number_test q.0 n.0)) ∙ shown_none (nat_eq q.0 n.0) (finite.get s.contexts q.0)
     ∙ ap (cond (nat_eq q.0 n.0) None) (sym (ctx-maps_of s q)) ∙ sym (ctx-put_ctx (maps_of s) n None q))
   where
-    shown_none : {A : Type 0} (b : Bool) (o : Option (Place A)) → shown (cond b None o) ≡ cond b None (shown o)
+    shown_none : {A : Type 0} (b : Bool) (o : Option (Place A)) → visible (cond b None o) ≡ cond b None (visible o)
     shown_none true o = refl
     shown_none false o = refl
 
-module _ (numbers slots new : List ℕ) (s after : Stored) (marked : AreMarked numbers slots (maps_of s)) where
-  pub marked-put_ctx_place : (n : CtxNum) (p : Place ContextRecord) (b : Bool) → IsNumberSet n.0 b numbers new → b ≡ is_some (shown (Some p)) → after ≡ put_ctx_place s n p → AreMarked new slots (maps_of after)
-  marked-put_ctx_place n p b set here e =
-      marked_still new slots (put_ctx (maps_of s) n (shown (Some p))) (maps_of after) (ap (λ x. maps_of x) e ∙ maps-put_ctx_place s n p)
-      (marked-put_ctx numbers slots new (maps_of s) marked n (shown (Some p)) (subst (λ (x : Bool). IsNumberSet n.0 x numbers new) here set))
+module _ (numbers slots new : List ℕ) (s after : Stored) (in_use : AreSet numbers slots (maps_of s)) where
+  pub in_use-put_ctx_place : (n : CtxNum) (p : Place ContextRecord) (b : Bool) → IsNumberSet n.0 b numbers new → b ≡ is_some (visible (Some p)) → after ≡ put_ctx_place s n p → AreSet new slots (maps_of after)
+  in_use-put_ctx_place n p b set here e =
+      marked_still new slots (put_ctx (maps_of s) n (visible (Some p))) (maps_of after) (ap (λ x. maps_of x) e ∙ maps-put_ctx_place s n p)
+      (in_use-put_ctx numbers slots new (maps_of s) in_use n (visible (Some p)) (subst (λ (x : Bool). IsNumberSet n.0 x numbers new) here set))
 
-  pub marked-put_term_place : (t : List ℕ) (p : Place Termination) (b : Bool) → IsSlotSet t b slots new → b ≡ is_some (shown (Some p)) → after ≡ put_term_place s t p → AreMarked numbers new (maps_of after)
-  marked-put_term_place t p b set here e =
-      marked_still numbers new (put_term (maps_of s) t (shown (Some p))) (maps_of after) (ap (λ x. maps_of x) e ∙ maps-put_term_place s t p)
-      (marked-put_term numbers slots new (maps_of s) marked t (shown (Some p)) (subst (λ (x : Bool). IsSlotSet t x slots new) here set))
+  pub in_use-put_term_place : (t : List ℕ) (p : Place Termination) (b : Bool) → IsSlotSet t b slots new → b ≡ is_some (visible (Some p)) → after ≡ put_term_place s t p → AreSet numbers new (maps_of after)
+  in_use-put_term_place t p b set here e =
+      marked_still numbers new (put_term (maps_of s) t (visible (Some p))) (maps_of after) (ap (λ x. maps_of x) e ∙ maps-put_term_place s t p)
+      (in_use-put_term numbers slots new (maps_of s) in_use t (visible (Some p)) (subst (λ (x : Bool). IsSlotSet t x slots new) here set))

@@ -12,7 +12,7 @@ use Rattle.gw_base.specs.Keys.{same_key, has}
 use Rattle.gw_base.proofs.NameTests.{name_test, number_test, same_name, same_number}
 use Rattle.gw_table.specs.declared.place.Place.{Place}
 use Rattle.gw_table.specs.declared.place.Place.TheVariants.{Empty, Here, Out}
-use Rattle.gw_table.specs.Stored.{Stored, shown, has_left, is_vacant, maps_of, is_ready, is_out, has_entry, drop_term_place, drop_ctx_place, AreAsOut, AreSwept, AreSweptAmong, KeepReady, WereSwept}
+use Rattle.gw_table.specs.Stored.{Stored, visible, has_left, is_vacant, maps_of, is_ready, is_out, has_entry, drop_term_place, drop_ctx_place, AreAsOut, AreSwept, AreSweptAmong, KeepReady, WereSwept}
 use Rattle.gw_table.proofs.Moved.{has-pushed}
 use Rattle.gw_table.proofs.Places.{term-maps_of, ctx-maps_of, shown_alike}
 
@@ -38,14 +38,14 @@ swept_more keys k a b c p q = record {
 
 -- ---- a key that has an entry or no place
 
-as_shown : {A : Type 0} (o : Option (Place A)) → has_left o ≡ false → is_vacant o ≡ false → is_some o ≡ is_some (shown o)
+as_shown : {A : Type 0} (o : Option (Place A)) → has_left o ≡ false → is_vacant o ≡ false → is_some o ≡ is_some (visible o)
 as_shown None out full = refl
 as_shown (Some Empty) out full = cc
 as_shown (Some (Here a)) out full = refl
 as_shown (Some Out) out full = cc
 
-still_ready : {K A : Type 0} (f : K → Option (Place A)) (b : Bool) (q t : K) (e : Bool) → (b ≡ true → q ≡ t) → has_left (f t) ≡ false → is_vacant (f t) ≡ false → e ≡ is_some (shown (f q)) → is_some (f q) ≡ cond (b || false) e (is_some (f q))
-still_ready f true q t e is out full h = ap (λ y. is_some (f y)) (is refl) ∙ as_shown (f t) out full ∙ ap (λ y. is_some (shown (f y))) (sym (is refl)) ∙ sym h
+still_ready : {K A : Type 0} (f : K → Option (Place A)) (b : Bool) (q t : K) (e : Bool) → (b ≡ true → q ≡ t) → has_left (f t) ≡ false → is_vacant (f t) ≡ false → e ≡ is_some (visible (f q)) → is_some (f q) ≡ cond (b || false) e (is_some (f q))
+still_ready f true q t e is out full h = ap (λ y. is_some (f y)) (is refl) ∙ as_shown (f t) out full ∙ ap (λ y. is_some (visible (f y))) (sym (is refl)) ∙ sym h
 still_ready f false q t e is out full h = refl
 
 pub term_kept : (s : Stored) (t : List ℕ) → is_out s (Term t) ≡ false → is_vacant (finite.get s.terms t) ≡ false → WereSwept (Term t ∷ []) s s
@@ -75,7 +75,7 @@ whole_kept s = record { maps = refl; out = λ k. refl; ready = at }
 -- ---- a place in which nothing stands
 
 module _ {K A : Type 0} (f : K → Option (Place A)) (q t : K) (vacant : is_vacant (f t) ≡ true) where
-  nothing_shown : (o : Option (Place A)) → is_vacant o ≡ true → shown o ≡ None
+  nothing_shown : (o : Option (Place A)) → is_vacant o ≡ true → visible o ≡ None
   nothing_shown None h = refl
   nothing_shown (Some Empty) h = refl
   nothing_shown (Some (Here a)) h = cc
@@ -87,16 +87,16 @@ module _ {K A : Type 0} (f : K → Option (Place A)) (q t : K) (vacant : is_vaca
   nothing_out (Some (Here a)) h = refl
   nothing_out (Some Out) h = cc
 
-  same_shown : (b : Bool) → (b ≡ true → q ≡ t) → shown (cond b None (f q)) ≡ shown (f q)
-  same_shown true is = sym (ap (λ y. shown (f y)) (is refl) ∙ nothing_shown (f t) vacant)
+  same_shown : (b : Bool) → (b ≡ true → q ≡ t) → visible (cond b None (f q)) ≡ visible (f q)
+  same_shown true is = sym (ap (λ y. visible (f y)) (is refl) ∙ nothing_shown (f t) vacant)
   same_shown false is = refl
 
   same_out : (b : Bool) → (b ≡ true → q ≡ t) → has_left (cond b None (f q)) ≡ has_left (f q)
   same_out true is = sym (ap (λ y. has_left (f y)) (is refl) ∙ nothing_out (f t) vacant)
   same_out false is = refl
 
-  now_gone : (b e : Bool) → (b ≡ true → q ≡ t) → e ≡ is_some (shown (f q)) → is_some (cond b None (f q)) ≡ cond (b || false) e (is_some (f q))
-  now_gone true e is h = sym (h ∙ ap (λ y. is_some (shown (f y))) (is refl) ∙ ap (λ o. is_some o) (nothing_shown (f t) vacant))
+  now_gone : (b e : Bool) → (b ≡ true → q ≡ t) → e ≡ is_some (visible (f q)) → is_some (cond b None (f q)) ≡ cond (b || false) e (is_some (f q))
+  now_gone true e is h = sym (h ∙ ap (λ y. is_some (visible (f y))) (is refl) ∙ ap (λ o. is_some o) (nothing_shown (f t) vacant))
   now_gone false e is h = refl
 
 got_term : (s : Stored) (t q : List ℕ) → finite.get (drop_term_place s t).terms q ≡ cond (bytes_eq q t) None (finite.get s.terms q)
@@ -107,7 +107,7 @@ got_ctx s n q = get-remove nat_cmp_total s.contexts n.0 q.0 ∙ ap (λ b. cond b
 
 pub term_gone : (s : Stored) (t : List ℕ) → is_vacant (finite.get s.terms t) ≡ true → WereSwept (Term t ∷ []) s (drop_term_place s t)
 term_gone s t vacant = record {
-  maps = shown_alike (drop_term_place s t) s (λ q. ap (λ o. shown o) (got_term s t q) ∙ same_shown (λ y. finite.get s.terms y) q t vacant (bytes_eq q t) (same_name q t)) (λ n. refl);
+  maps = shown_alike (drop_term_place s t) s (λ q. ap (λ o. visible o) (got_term s t q) ∙ same_shown (λ y. finite.get s.terms y) q t vacant (bytes_eq q t) (same_name q t)) (λ n. refl);
   out = out;
   ready = ready;
 }
@@ -124,7 +124,7 @@ term_gone s t vacant = record {
 
 pub ctx_gone : (s : Stored) (n : CtxNum) → is_vacant (finite.get s.contexts n.0) ≡ true → WereSwept (Ctx n ∷ []) s (drop_ctx_place s n)
 ctx_gone s n vacant = record {
-  maps = shown_alike (drop_ctx_place s n) s (λ t. refl) (λ q. ap (λ o. shown o) (got_ctx s n q) ∙ same_shown (λ (y : CtxNum). finite.get s.contexts y.0) q n vacant (nat_eq q.0 n.0) (same_number q n));
+  maps = shown_alike (drop_ctx_place s n) s (λ t. refl) (λ q. ap (λ o. visible o) (got_ctx s n q) ∙ same_shown (λ (y : CtxNum). finite.get s.contexts y.0) q n vacant (nat_eq q.0 n.0) (same_number q n));
   out = out;
   ready = ready;
 }
@@ -141,7 +141,7 @@ ctx_gone s n vacant = record {
 
 -- ---- what is prepared then
 
-from_shown : {A : Type 0} (o : Option (Place A)) → is_some (shown o) ≡ true → is_some o ≡ true
+from_shown : {A : Type 0} (o : Option (Place A)) → is_some (visible o) ≡ true → is_some o ≡ true
 from_shown None h = h
 from_shown (Some p) h = refl
 

@@ -13,12 +13,12 @@ use Rattle.gw_base.proofs.NameTests.{same_name, same_number}
 use Rattle.gw_base.proofs.NamesInLists.{or_left, or_right}
 use Rattle.gw_term.specs.declared.record.Termination.{Termination}
 use Rattle.gw_ctx.specs.Contexts.{ContextRecord}
-use Rattle.gw_table.specs.declared.originals.Write.{Write}
-use Rattle.gw_table.specs.declared.originals.Write.TheVariants.{OfTerm, OfCtx, OfProperties}
+use Rattle.gw_table.specs.declared.undo_log.Write.{Write}
+use Rattle.gw_table.specs.declared.undo_log.Write.TheVariants.{OfTerm, OfCtx, OfProperties}
 use Rattle.gw_table.specs.declared.setting.Setting.{Setting}
 use Rattle.gw_table.specs.declared.setting.Setting.TheVariants.{Both}
 use Rattle.gw_table.specs.Maps.{Maps, term, ctx, put_term, put_ctx, no_maps}
-use Rattle.gw_table.specs.Originals.{key_written, keys_written, without_write, undone, logs_properties, has_properties}
+use Rattle.gw_table.specs.UndoLog.{key_written, keys_written, without_write, undone, logs_properties, has_properties}
 use Rattle.gw_table.specs.Stored.{has_entry}
 use Rattle.gw_table.proofs.Leaving.{put_term-put_term, put_term-same, put_ctx-same}
 use Rattle.gw_table.proofs.Lookups.{term-put_term, ctx-put_term, term-put_ctx, ctx-put_ctx, put_ctx-put_ctx, same_maps}

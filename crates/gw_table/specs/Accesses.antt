@@ -1,5 +1,5 @@
--- What is done to the maps as single reads and writes of entries, one after another (own): what executes transactions side
--- by side may rely on.
+-- What is done to the maps as single reads and writes of entries, one after another (own): what executes transactions
+-- side by side may rely on.
 use Rattle.std.specs.Prelude.{◌≡◌, ℕ, true, List, Option, Some, ◌⊎◌}
 use Rattle.gw_base.specs.declared.ids.CtxNum.{CtxNum}
 use Rattle.gw_base.specs.declared.key.Key.{Key}
@@ -44,8 +44,8 @@ NewIn keys old new = (t : List ℕ) → is_in t new ≡ true → (is_in t old �
 abbrev pub NewPlace : List Key → Option CtxNum → Option CtxNum → Type 0
 NewPlace keys old new = (c : CtxNum) → new ≡ Some c → (old ≡ Some c) ⊎ (has keys (Ctx c) ≡ true)
 
--- On these maps they read and write at these keys alone, and what they write names no place and no member beyond the keys and
--- who was there.
+-- On these maps they read and write at these keys alone, and what they write names no place and no member beyond the
+-- keys and who was there.
 abbrev pub Within : {A : Type 0} → List Key → Accesses A → Maps → Type 0
 Within keys (Done a) m = Unit {0}
 Within keys (ReadTerm t f) m = (has keys (Term t) ≡ true) × Within keys (f (term m t)) m

@@ -1,5 +1,5 @@
--- Items one after another, up to the first that stops (RFC 3525, sections 8.1 and 8.2): commands in an action, actions in a
--- transaction; and, where none stops, targets of a command.
+-- Items one after another, up to the first that stops (RFC 3525, sections 8.1 and 8.2): commands in an action, actions
+-- in a transaction; and, where none stops, targets of a command.
 use Rattle.std.specs.Prelude.{Bool, true, false, if◌then◌else◌, List, [], ◌∷◌, ◌++◌}
 use Rattle.gw_table.specs.declared.attempts.Attempts.{Attempts}
 use Rattle.gw_table.specs.Maps.{Maps, Outcome}

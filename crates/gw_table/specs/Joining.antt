@@ -6,11 +6,11 @@ use Rattle.gw_table.specs.declared.place.Place.{Place}
 use Rattle.gw_table.specs.declared.place.Place.TheVariants.{Empty, Here, Out}
 use Rattle.gw_table.specs.Maps.{context_of}
 use Rattle.gw_table.specs.Members.{unless_empty}
-use Rattle.gw_table.specs.Stored.{Stored, shown, placed, put_ctx_place}
+use Rattle.gw_table.specs.Stored.{Stored, visible, placed, put_ctx_place}
 
 -- the name joins the context that stands there, or one that has just come into being
 abbrev pub joined_at : List ℕ → Place ContextRecord → Place ContextRecord
-joined_at t p = Here (joined t (context_of (shown (Some p))))
+joined_at t p = Here (joined t (context_of (visible (Some p))))
 
 -- the same of the context with a number, which is this one
 abbrev pub join_place : List ℕ → CtxNum → Stored → Option ContextRecord → Stored

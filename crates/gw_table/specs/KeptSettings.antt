@@ -3,13 +3,13 @@ use Rattle.std.specs.Prelude.{◌≡◌, ℕ, ◌⊎◌, true, List, [], ◌∷�
 use Rattle.gw_base.specs.declared.key.Key.TheVariants.{Ctx}
 use Rattle.gw_base.specs.Keys.{has}
 use Rattle.gw_ctx.specs.Contexts.{ContextRecord}
-use Rattle.gw_table.specs.declared.originals.Write.{Write}
-use Rattle.gw_table.specs.declared.originals.Write.TheVariants.{OfProperties}
+use Rattle.gw_table.specs.declared.undo_log.Write.{Write}
+use Rattle.gw_table.specs.declared.undo_log.Write.TheVariants.{OfProperties}
 use Rattle.gw_table.specs.declared.place.Place.{Place}
 use Rattle.gw_table.specs.declared.place.Place.TheVariants.{Here}
 use Rattle.gw_table.specs.declared.setting.Setting.{Setting}
 use Rattle.gw_table.specs.Maps.{number}
-use Rattle.gw_table.specs.Originals.{keys_written, has_properties}
+use Rattle.gw_table.specs.UndoLog.{keys_written, has_properties}
 use Rattle.gw_table.specs.Settings.{set_at}
 
 -- the number is logged, or its context is so already, or its properties are logged

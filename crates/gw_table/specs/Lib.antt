@@ -12,7 +12,7 @@ pub mod Locality
 pub mod Maps
 pub mod Marking
 pub mod Members
-pub mod Originals
+pub mod UndoLog
 pub mod Parts
 pub mod Reserved
 pub mod RowLending

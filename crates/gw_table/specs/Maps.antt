@@ -75,7 +75,7 @@ no_maps = record { terms = finite.empty; contexts = finite.empty }
 abbrev pub new_maps : List (List ℕ) → Maps
 new_maps configured = record { terms = finite.from_entries (map (λ name. (name, provisioned)) configured); contexts = finite.empty }
 
--- by which maps are told apart
+-- by which maps are distinguished
 abbrev pub coded_maps : Coded Maps
 coded_maps =
     code_by (finite.FinMap name_cmp Termination × finite.FinMap nat_cmp ContextRecord)

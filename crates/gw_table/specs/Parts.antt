@@ -62,14 +62,14 @@ restricted keys m = record { terms = finite.retain_keys m.terms (λ t. has keys 
 abbrev pub cut : List Key → Maps → Maps
 cut keys m = record { terms = finite.retain_keys m.terms (λ t. not (has keys (Term t))); contexts = finite.retain_keys m.contexts (λ n. not (has keys (Ctx (record { 0 = n })))) }
 
--- a part laid over the maps: each of the keys has the part's entry, and none where the part has none
+-- a part put over the maps: each of the keys has the part's entry, and none where the part has none
 abbrev pub overlaid : List Key → Maps → Maps → Maps
 overlaid [] part m = m
 overlaid (Term t ∷ keys) part m = put_term (overlaid keys part m) t (term part t)
 overlaid (Ctx n ∷ keys) part m = put_ctx (overlaid keys part m) n (ctx part n)
 overlaid (Whole ∷ keys) part m = overlaid keys part m
 
--- ---- codes, by which values of models are told apart
+-- ---- codes, by which values of models are distinguished
 
 abbrev keyed : Key → List ℕ ⊎ (ℕ ⊎ ℕ)
 keyed (Term t) = inl t

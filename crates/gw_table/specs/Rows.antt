@@ -47,7 +47,8 @@ module _ {K T : Type 0} where
   is_of cmp k None = false
   is_of cmp k (Some l) = eq_by_cmp cmp k l.key
 
-  -- The index has for each of its keys the number of a row of that key, and each row is the one that the index has for its key.
+  -- The index has for each of its keys the number of a row of that key, and each row is the one that the index has for
+  -- its key.
   pub record IsTied (cmp : K → K → Ordering) (index : List (K × ℕ)) (rows : List (Option (KeyedRow K T))) : Type 0 where
     pub ordered : IsStrictlySortedBy cmp (keys_of index)
     pub named : (k : K) (n : ℕ) → lookup (is_at (cmp k)) index ≡ Some n → is_of cmp k (row_at rows n) ≡ true

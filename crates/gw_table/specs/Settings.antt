@@ -1,7 +1,7 @@
 -- A property of a context that is set in its place (RFC 3525, section 6.1.1).
 use Rattle.std.specs.Prelude.{true, Option, None, Some}
 use Rattle.gw_base.specs.declared.ids.CtxNum.{CtxNum}
-use Rattle.gw_ctx.specs.Contexts.{ContextRecord, prioritized, marked}
+use Rattle.gw_ctx.specs.Contexts.{ContextRecord, prioritized, with_emergency}
 use Rattle.gw_table.specs.declared.place.Place.{Place}
 use Rattle.gw_table.specs.declared.place.Place.TheVariants.{Empty, Here, Out}
 use Rattle.gw_table.specs.declared.setting.Setting.{Setting}
@@ -11,8 +11,8 @@ use Rattle.gw_table.specs.Stored.{Stored, put_ctx_place}
 
 abbrev pub with_setting : Setting → ContextRecord → ContextRecord
 with_setting (Priority p) c = prioritized p c
-with_setting Emergency c = marked true c
-with_setting (Both p e) c = prioritized p (marked e c)
+with_setting Emergency c = with_emergency true c
+with_setting (Both p e) c = prioritized p (with_emergency e c)
 
 -- the context with a number, which is this one, is so; of one that is not there nothing is set
 abbrev pub put_setting : Setting → CtxNum → Maps → Option ContextRecord → Maps

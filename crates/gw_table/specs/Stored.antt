@@ -1,4 +1,5 @@
--- Tables as they are stored (own): a place for each prepared key, with its entry, or empty, or with what stood there out.
+-- Tables as they are stored (own): a place for each prepared key, with its entry, or empty, or with what stood there
+-- out.
 use Rattle.std.specs.Prelude.{◌≡◌, ℕ, Bool, true, false, cond, not, ◌||◌, ◌&&◌, List, [], ◌∷◌, Option, None, Some, is_some, refl}
 use Rattle.std.specs.Ordering.{nat_cmp}
 use Rattle.std.specs.FinMap as finite
@@ -29,11 +30,11 @@ stored ts cs = record { terms = finite.from_entries ts; contexts = finite.from_e
 -- ---- one place
 
 -- the entry that stands there
-abbrev pub shown : {A : Type 0} → Option (Place A) → Option A
-shown None = None
-shown (Some Empty) = None
-shown (Some (Here a)) = Some a
-shown (Some Out) = None
+abbrev pub visible : {A : Type 0} → Option (Place A) → Option A
+visible None = None
+visible (Some Empty) = None
+visible (Some (Here a)) = Some a
+visible (Some Out) = None
 
 -- what stood there is out
 abbrev pub has_left : {A : Type 0} → Option (Place A) → Bool
@@ -50,11 +51,11 @@ is_vacant (Some (Here a)) = false
 is_vacant (Some Out) = false
 
 -- what stands there, if it is an entry
-abbrev pub if_shown : {A : Type 0} → Option (Place A) → Option (Place A)
-if_shown None = None
-if_shown (Some Empty) = None
-if_shown (Some (Here a)) = Some (Here a)
-if_shown (Some Out) = None
+abbrev pub if_visible : {A : Type 0} → Option (Place A) → Option (Place A)
+if_visible None = None
+if_visible (Some Empty) = None
+if_visible (Some (Here a)) = Some (Here a)
+if_visible (Some Out) = None
 
 -- the place of an entry, or of none
 abbrev pub placed : {A : Type 0} → Option A → Place A
@@ -71,7 +72,7 @@ put_at m k (Some x) = finite.insert m k x
 -- the map of what stands in these places
 abbrev pub filled : {K X : Type 0} {R : K → K → Ordering} → List (K × Place X) → finite.FinMap R X
 filled [] = finite.empty
-filled {R = R} (e ∷ es) = put_at (filled {R = R} es) e.0 (shown (Some e.1))
+filled {R = R} (e ∷ es) = put_at (filled {R = R} es) e.0 (visible (Some e.1))
 
 -- the tables as maps: what is out is not in them
 unfoldable pub maps_of : Stored → Maps
@@ -242,7 +243,7 @@ pub record AreMoved (keys : List Key) (from to left full : Stored) : Type 0 wher
   pub contexts_left : (n : CtxNum) → finite.get left.contexts n.0 ≡ cond (has keys (Ctx n)) (Some Out) (finite.get from.contexts n.0)
   pub contexts_full : (n : CtxNum) → finite.get full.contexts n.0 ≡ cond (has keys (Ctx n)) (finite.get from.contexts n.0) (finite.get to.contexts n.0)
 
--- ---- codes, by which values of models are told apart
+-- ---- codes, by which values of models are distinguished
 
 abbrev flat : {A : Type 0} → Place A → Option (Option A)
 flat Empty = None

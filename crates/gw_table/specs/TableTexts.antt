@@ -32,7 +32,7 @@ context_line n members = codes "context " ++ decimal n.0 ++ flat_map member_text
 abbrev pub priority_line : CtxNum → ℕ → List ℕ
 priority_line n priority = if priority == 0 then [] else codes "priority " ++ decimal n.0 ++ codes " " ++ decimal priority ++ codes "\n"
 
--- emergency <number>, where it is marked so
+-- emergency <number>, where it is one
 abbrev pub emergency_line : CtxNum → Bool → List ℕ
 emergency_line n false = []
 emergency_line n true = codes "emergency " ++ decimal n.0 ++ codes "\n"

@@ -11,8 +11,8 @@ use Rattle.gw_table.specs.Maps.{Maps, term, ctx, context_of, members_of, place_o
 use Rattle.gw_table.specs.Parts.{PartKeys, holds}
 use Rattle.gw_table.specs.Reserved.{is_reserved, slot_name}
 
--- What a part of tables has from the whole: a member whose entry is the part's is recorded in that context, and no list has a
--- name twice.
+-- What a part of tables has from the whole: a member whose entry is the part's is recorded in that context, and no list
+-- has a name twice.
 pub record IsSound (keys : PartKeys) (m : Maps) : Type 0 where
   pub recorded : (t : List ℕ) (n : CtxNum) → holds keys (Term t) ≡ true → is_in t (members_of (ctx m n)) ≡ true → place_of (term m t) ≡ Some n
   pub once : (n : CtxNum) → NoDoubles (members_of (ctx m n))
@@ -22,9 +22,10 @@ abbrev pub Fits : List ℕ → Option ℕ → Type 0
 Fits t None = is_reserved t ≡ false
 Fits t (Some slot) = t ≡ slot_name slot
 
--- A name stands in a context's list exactly if its record's place is that context, and once. No context is without members, and none
--- has more than the limit. The properties of each are fit: links join its members, at most one for a pair. RTP/<s> is the name of exactly the ephemeral termination of slot s, and no other name is one that
--- is the gateway's own to give. No list of properties has too many.
+-- A name stands in a context's list exactly if its record's place is that context, and once. No context is without
+-- members, and none has more than the limit. The properties of each are fit: links join its members, at most one for a
+-- pair. RTP/<s> is the name of exactly the ephemeral termination of slot s, and no other name is one that is the
+-- gateway's own to give. No list of properties has too many.
 pub record AreWellFormed (limit : ℕ) (m : Maps) : Type 0 where
   pub recorded : (t : List ℕ) (n : CtxNum) → is_in t (members_of (ctx m n)) ≡ true → place_of (term m t) ≡ Some n
   pub listed : (t : List ℕ) (n : CtxNum) → place_of (term m t) ≡ Some n → is_in t (members_of (ctx m n)) ≡ true

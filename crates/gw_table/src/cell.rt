@@ -5,7 +5,7 @@ ghost use Rattle.gw_base.specs.declared.key.Key.{Key};
 ghost use Rattle.gw_base.specs.declared.key.Key.TheVariants.{Term, Ctx};
 ghost use Rattle.gw_table.specs.Cells.{cell_term, cell_ctx, empty_cell, IsFound};
 ghost use Rattle.gw_table.specs.KeyLists.{key_cmp, IsInOrder};
-ghost use Rattle.gw_table.specs.Stored.{shown};
+ghost use Rattle.gw_table.specs.Stored.{visible};
 
 use crate::place::{Place, entry_at};
 use gw_base::{CtxNum, Key, NoMemory, TermName};
@@ -70,7 +70,7 @@ impl Cell {
 
     /// The termination that stands here.
     pub(crate) fn term(&self) -> Option<&Termination>
-        ensures { option_copied result ≡ shown (Some (cell_term self.now)) }
+        ensures { option_copied result ≡ visible (Some (cell_term self.now)) }
     {
         match self {
             Cell::OfTerm(place) => entry_at(Some(place)),
@@ -80,7 +80,7 @@ impl Cell {
 
     /// The context that stands here.
     pub(crate) fn ctx(&self) -> Option<&Context>
-        ensures { option_copied result ≡ shown (Some (cell_ctx self.now)) }
+        ensures { option_copied result ≡ visible (Some (cell_ctx self.now)) }
     {
         match self {
             Cell::OfCtx(place) => entry_at(Some(place)),

@@ -3,15 +3,15 @@
 ghost use Rattle.std.specs.Prelude.{◌≡◌, None, IfOk, OnOk, OnErr};
 ghost use Rattle.gw_table.specs.Maps.{term, ctx, put_term, put_ctx};
 ghost use Rattle.gw_table.specs.Members.{put_service};
-ghost use Rattle.gw_table.specs.Originals.{before_all, keys_written, undone};
+ghost use Rattle.gw_table.specs.UndoLog.{before_all, keys_written, undone};
 ghost use Rattle.gw_table.specs.Parts.{Over, start_of};
 ghost use Rattle.gw_table.specs.Stored.{maps_of, NoneIsOut, AreReady, KeepReady, NoOtherReady};
 
-use crate::originals::{Originals, Write};
 use crate::place::Place;
 use crate::row::Found;
 use crate::rows::Guide;
 use crate::tables::Tables;
+use crate::undo_log::{UndoLog, Write};
 use gw_base::{CtxNum, NoMemory, Service, TermName};
 use gw_ctx::Context;
 use gw_term::Termination;
@@ -27,7 +27,7 @@ pub(crate) struct InPlace {
     pub(crate) tables: Tables,
     pub(crate) writes: Vec<Write>,
     before: Snapshot<Tables>,
-    earlier: Snapshot<Originals>,
+    earlier: Snapshot<UndoLog>,
 }
 
 // By hand, so that a function that drops it does so by one call. A derived one would stand in it field by field.
@@ -43,7 +43,7 @@ impl Drop for InPlace {
 }
 
 impl Model for InPlace {
-    ghost use Rattle.gw_table.specs.Originals.{before_all, IsInPlace};
+    ghost use Rattle.gw_table.specs.UndoLog.{before_all, IsInPlace};
     ghost use Rattle.gw_table.specs.Parts.{Parted, Over, coded_part};
     ghost use Rattle.gw_table.specs.Stored.{maps_of};
 
@@ -58,14 +58,14 @@ impl Model for InPlace {
 
 impl InPlace {
     /// Tables, with the undo log of earlier changes.
-    pub(crate) fn new(tables: Tables, originals: Originals) -> InPlace
+    pub(crate) fn new(tables: Tables, undo_log: UndoLog) -> InPlace
         requires here { NoneIsOut tables }
-        requires ready { AreReady (keys_written originals) tables }
-        ensures { result ≡ record { keys = Over (before_all originals tables); maps = maps_of tables } }
+        requires ready { AreReady (keys_written undo_log) tables }
+        ensures { result ≡ record { keys = Over (before_all undo_log tables); maps = maps_of tables } }
     {
         let before = Snapshot::of(&tables);
-        let earlier = Snapshot::of(&originals);
-        let Originals { writes } = originals;
+        let earlier = Snapshot::of(&undo_log);
+        let UndoLog { writes } = undo_log;
         InPlace {
             tables,
             writes,
@@ -160,7 +160,7 @@ impl InPlace {
     }
 
     /// The tables as they are, and what stood there before.
-    pub(crate) fn into_tables(self) -> (Tables, Originals)
+    pub(crate) fn into_tables(self) -> (Tables, UndoLog)
         ensures maps { maps_of result.0 ≡ self.maps }
         ensures here { NoneIsOut result.0 }
         ensures kept { KeepReady (start_of self.keys) result.0 }
@@ -174,7 +174,7 @@ impl InPlace {
             before: _,
             earlier: _,
         } = self;
-        (tables, Originals { writes })
+        (tables, UndoLog { writes })
     }
 
     /// The tables as they were at the start. It takes no memory.

@@ -8,17 +8,17 @@ ghost use Rattle.gw_table.specs.Found.{IsFound};
 ghost use Rattle.gw_table.specs.Joining.{joined_at, join_place, left_at, leave_place};
 ghost use Rattle.gw_table.specs.Maps.{ctx, members_of};
 ghost use Rattle.gw_table.specs.Members.{with_member, without_member};
-ghost use Rattle.gw_table.specs.Originals.{keys_written};
+ghost use Rattle.gw_table.specs.UndoLog.{keys_written};
 ghost use Rattle.gw_table.specs.Parts.{holds};
-ghost use Rattle.gw_table.specs.Stored.{maps_of, shown};
+ghost use Rattle.gw_table.specs.Stored.{maps_of, visible};
 
 use crate::in_place::InPlace;
-use crate::marked::set_number;
-use crate::originals::Write;
+use crate::in_use::set_number;
 use crate::part::Part;
 use crate::place::Place;
 use crate::row::{Found, Row};
 use crate::tables::Tables;
+use crate::undo_log::Write;
 use gw_base::{CtxNum, Key, NoMemory, TermName};
 use gw_ctx::{Context, JoinFault};
 use std::alloc::Global;
@@ -55,8 +55,8 @@ pub(crate) fn join_in_place(
     name: TermName,
     limit: usize,
 ) -> Result<(), NoMemory>
-    requires new { is_in name (members_of (shown (Some place.old))) ≡ false }
-    requires room { length (members_of (shown (Some place.old))) < limit }
+    requires new { is_in name (members_of (visible (Some place.old))) ≡ false }
+    requires room { length (members_of (visible (Some place.old))) < limit }
     ensures after { OnOk result (place.new ≡ joined_at name place.old) }
     ensures err { OnErr result (place.new ≡ place.old) }
 {

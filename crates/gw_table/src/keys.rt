@@ -5,6 +5,7 @@ ghost use Rattle.gw_table.specs.KeyLists.{IsInOrder, IsListOf};
 
 use crate::cell::{Cell, empty_cells};
 use crate::key_list::put_in_order;
+use crate::rows::Guide;
 use gw_base::{Key, NoMemory};
 use std::alloc::Global;
 use std::marker::Model;
@@ -15,6 +16,9 @@ use std::marker::Model;
 pub struct Keys {
     pub(crate) list: Vec<Key>,
     pub(crate) cells: Vec<Cell>,
+    // Where the row of each key was last. No contract speaks of it: what is there is looked at before it is believed,
+    // and a missing one is `Guide::none()`.
+    pub(crate) guides: Vec<Guide>,
 }
 
 impl Model for Keys {
@@ -46,7 +50,12 @@ impl Keys {
         ensures { IfOk result (λ keys. keys ≡ list.items) }
     {
         let cells = empty_cells(alloc, &list)?;
-        Ok(Keys { list, cells })
+        let guides = vec![in alloc; Guide::none(); list.len()]?;
+        Ok(Keys {
+            list,
+            cells,
+            guides,
+        })
     }
 
     /// The given keys and no other. The work is n log n in the keys.

@@ -11,10 +11,11 @@ ghost use Rattle.gw_table.specs.Parts.{Only, list_of, restricted, cut, overlaid}
 ghost use Rattle.gw_table.specs.Stored.{maps_of, is_ready, put_term_place, put_ctx_place, with_out, AreMoved, AreReady, AreIn, AreOut, AreAsReady, AreAsOut, WentOut, CameBack};
 
 use crate::cell::Cell;
+use crate::in_use::{set_number, set_slot};
 use crate::keys::Keys;
-use crate::marked::{set_number, set_slot};
 use crate::part::Part;
 use crate::place::Place;
+use crate::rows::{Guide, guide_at, set_guide};
 use crate::tables::Tables;
 use gw_base::{CtxNum, Key, TermName};
 use gw_ctx::Context;
@@ -22,9 +23,11 @@ use gw_term::Termination;
 use std::mem;
 
 impl Tables {
-    /// Puts something else in the place of a termination, and answers what stood there.
+    /// Puts something else in the place of a termination, and answers what stood there. The guide is looked at first,
+    /// and is then that of the row.
     pub(crate) fn exchange_term(
         &mut self,
+        guide: &mut Guide,
         name: &TermName,
         new: Place<Termination>,
     ) -> Place<Termination>
@@ -33,40 +36,52 @@ impl Tables {
         ensures after { self.new ≡ put_term_place self.old name.now new }
     {
         set_slot(&mut self.slots, name, new.is_here());
-        match self.terms.get_mut(name) {
-            Some(row) => row.put(new),
+        match self.terms.get_mut_at(*guide, name) {
+            Some(row) => {
+                *guide = row.guide();
+                row.put(new)
+            }
             None => unreachable!(),
         }
     }
 
-    /// Puts something else in the place of a context, and answers what stood there.
-    pub(crate) fn exchange_ctx(&mut self, number: CtxNum, new: Place<Context>) -> Place<Context>
+    /// Puts something else in the place of a context, and answers what stood there. The guide is looked at first, and
+    /// is then that of the row.
+    pub(crate) fn exchange_ctx(
+        &mut self,
+        guide: &mut Guide,
+        number: CtxNum,
+        new: Place<Context>,
+    ) -> Place<Context>
         requires { is_ready self.old (Ctx number) ≡ true }
         ensures before { Some result ≡ finite.get self.old.contexts number.0 }
         ensures after { self.new ≡ put_ctx_place self.old number new }
     {
         set_number(&mut self.numbers, number, new.is_here());
-        match self.contexts.get_mut(&number.0) {
-            Some(row) => row.put(new),
+        match self.contexts.get_mut_at(*guide, &number.0) {
+            Some(row) => {
+                *guide = row.guide();
+                row.put(new)
+            }
             None => unreachable!(),
         }
     }
 
     /// Takes what stands at a key out, into its cell.
-    fn take_one(&mut self, key: &Key, cell: &mut Cell)
+    fn take_one(&mut self, guide: &mut Guide, key: &Key, cell: &mut Cell)
         requires { is_ready self.old key.now ≡ true }
         ensures left { self.new ≡ with_out self.old key.now }
         ensures full { cell.new ≡ cell_from self.old key.now }
     {
         *cell = match key {
-            Key::Term(name) => Cell::OfTerm(self.exchange_term(name, Place::Out)),
-            Key::Ctx(number) => Cell::OfCtx(self.exchange_ctx(*number, Place::Out)),
+            Key::Term(name) => Cell::OfTerm(self.exchange_term(guide, name, Place::Out)),
+            Key::Ctx(number) => Cell::OfCtx(self.exchange_ctx(guide, *number, Place::Out)),
             Key::Whole => Cell::OfWhole,
         };
     }
 
-    /// Takes what stands at each of the keys out, into its cell.
-    fn take_each(&mut self, keys: &[Key], cells: &mut [Cell])
+    /// Takes what stands at each of the keys out, into its cell, and sets its guide.
+    fn take_each(&mut self, keys: &[Key], cells: &mut [Cell], guides: &mut [Guide])
         requires order { IsInOrder keys.now }
         requires as_many { length cells.old ≡ length keys.now }
         requires ready { AreReady keys.now self.old }
@@ -74,12 +89,14 @@ impl Tables {
         ensures as_many { length cells.new ≡ length keys.now }
     {
         for (i, key) in keys.iter().enumerate() {
-            self.take_one(key, &mut cells[i]);
+            let mut guide = guide_at(guides, i);
+            self.take_one(&mut guide, key, &mut cells[i]);
+            set_guide(guides, i, guide);
         }
     }
 
     /// Puts what is in the cell of a key there.
-    fn put_one(&mut self, key: &Key, cell: &mut Cell)
+    fn put_one(&mut self, mut guide: Guide, key: &Key, cell: &mut Cell)
         requires { is_ready self.old key.now ≡ true }
         ensures left { cell.new ≡ out_cell key.now cell.old }
         ensures full { self.new ≡ with_cell key.now cell.old self.old }
@@ -87,31 +104,31 @@ impl Tables {
         match key {
             Key::Term(name) => {
                 let place = mem::replace(cell, Cell::OfTerm(Place::Out)).into_term();
-                self.exchange_term(name, place);
+                self.exchange_term(&mut guide, name, place);
             }
             Key::Ctx(number) => {
                 let place = mem::replace(cell, Cell::OfCtx(Place::Out)).into_ctx();
-                self.exchange_ctx(*number, place);
+                self.exchange_ctx(&mut guide, *number, place);
             }
             Key::Whole => {}
         }
     }
 
     /// Puts what is in the cell of each of the keys there.
-    fn put_each(&mut self, keys: &[Key], cells: &mut [Cell])
+    fn put_each(&mut self, keys: &[Key], cells: &mut [Cell], guides: &[Guide])
         requires order { IsInOrder keys.now }
         requires as_many { length cells.old ≡ length keys.now }
         requires ready { AreReady keys.now self.old }
         ensures { AreMoved keys.now (celled keys.now cells.old) self.old (celled keys.now cells.new) self.new }
     {
         for (i, key) in keys.iter().enumerate() {
-            self.put_one(key, &mut cells[i]);
+            self.put_one(guide_at(guides, i), key, &mut cells[i]);
         }
     }
 
     /// Takes the entries of the keys out, as a part. The caller knows that each key is prepared and none is out. Of
-    /// `Whole` nothing is asked but that every entry's key is listed, and then the part has every entry. A key takes
-    /// one look-up.
+    /// `Whole` nothing is required but that every entry's key is listed, and then the part has every entry. A key takes
+    /// one look-up, or none where its guide is right.
     pub fn take_out(&mut self, keys: Keys) -> Part
         requires ready { AreReady keys self.old }
         requires here { AreIn keys self.old }
@@ -121,9 +138,17 @@ impl Tables {
         ensures out { WentOut keys self.old self.new }
         ensures ready { AreAsReady self.old self.new }
     {
-        let Keys { list, mut cells } = keys;
-        self.take_each(&list, &mut cells);
-        Part { keys: list, cells }
+        let Keys {
+            list,
+            mut cells,
+            mut guides,
+        } = keys;
+        self.take_each(&list, &mut cells, &mut guides);
+        Part {
+            keys: list,
+            cells,
+            guides,
+        }
     }
 
     /// Lays the entries of a part over those that are here.
@@ -133,12 +158,16 @@ impl Tables {
         ensures out { CameBack (list_of part.keys) self.old self.new }
         ensures ready { AreAsReady self.old self.new }
     {
-        let Part { keys, mut cells } = part;
-        self.put_each(&keys, &mut cells);
+        let Part {
+            keys,
+            mut cells,
+            guides,
+        } = part;
+        self.put_each(&keys, &mut cells, &guides);
     }
 
     /// Puts the entries of a part back: each of its keys has the part's entry then, or none where the part has none.
-    /// The caller knows that its keys are out. A key takes one look-up.
+    /// The caller knows that its keys are out. A key takes one look-up, or none where its guide is right.
     pub fn put_back(&mut self, part: Part)
         requires { AreOut (list_of part.keys) self.old }
         ensures maps { maps_of self.new ≡ overlaid (list_of part.keys) part.maps (maps_of self.old) }
@@ -150,7 +179,7 @@ impl Tables {
 
     /// Puts the entries of a part in place of those that are here: each of its keys has the part's entry then, or
     /// none where the part has none. The caller knows that its keys are prepared and none is out. A key takes one
-    /// look-up.
+    /// look-up, or none where its guide is right.
     pub fn replace(&mut self, part: Part)
         requires ready { AreReady (list_of part.keys) self.old }
         requires here { AreIn (list_of part.keys) self.old }

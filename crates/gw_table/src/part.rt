@@ -9,6 +9,7 @@ ghost use Rattle.gw_table.specs.Parts.{list_of, holds, IsPart};
 
 use crate::cell::{Cell, find_name, find_number};
 use crate::place::Place;
+use crate::rows::Guide;
 use gw_base::{CtxNum, Key, NoMemory, Service, TermName};
 use gw_ctx::Context;
 use gw_term::Termination;
@@ -21,6 +22,8 @@ use std::mem;
 pub struct Part {
     pub(crate) keys: Vec<Key>,
     pub(crate) cells: Vec<Cell>,
+    // Those of its keys, as in `Keys`.
+    pub(crate) guides: Vec<Guide>,
 }
 
 impl Model for Part {
@@ -49,11 +52,16 @@ impl Part {
         ensures { IfOk result (λ copy. copy ≡ self.now) }
     {
         let keys = Vec::from_slice(alloc, &self.keys)?;
+        let guides = Vec::from_slice(alloc, &self.guides)?;
         let mut cells = Vec::with_capacity(alloc, self.cells.len())?;
         for cell in &self.cells {
             cells.push(cell.copy()?)?;
         }
-        Ok(Part { keys, cells })
+        Ok(Part {
+            keys,
+            cells,
+            guides,
+        })
     }
 
     /// The keys of the part, in order. No entry is at another one.

@@ -1,7 +1,7 @@
 //! What stands at a prepared key.
 
 ghost use Rattle.std.specs.Prelude.{◌≡◌, Some, is_some, IfOk, option_copied};
-ghost use Rattle.gw_table.specs.Stored.{shown, placed, served, emptied, is_vacant};
+ghost use Rattle.gw_table.specs.Stored.{visible, placed, served, emptied, is_vacant};
 
 use gw_base::{NoMemory, Service};
 use gw_ctx::Context;
@@ -33,14 +33,14 @@ impl<T> Place<T> {
 
     /// Whether an entry stands here.
     pub fn is_here(&self) -> bool
-        ensures { result ≡ is_some (shown (Some self.now)) }
+        ensures { result ≡ is_some (visible (Some self.now)) }
     {
         matches!(self, Place::Here(_))
     }
 
     /// The entry that stands here.
     pub fn into_entry(self) -> Option<T>
-        ensures { result ≡ shown (Some self) }
+        ensures { result ≡ visible (Some self) }
     {
         match self {
             Place::Here(entry) => Some(entry),
@@ -50,7 +50,7 @@ impl<T> Place<T> {
 
     /// Takes the entry that stands here out, if there is one.
     pub(crate) fn take(&mut self) -> Option<T>
-        ensures before { result ≡ shown (Some self.old) }
+        ensures before { result ≡ visible (Some self.old) }
         ensures after { self.new ≡ emptied self.old }
     {
         match self {
@@ -62,7 +62,7 @@ impl<T> Place<T> {
 
 /// The entry that stands in a place, if there is such a place.
 pub(crate) fn entry_at<T>(place: Option<&Place<T>>) -> Option<&T>
-    ensures { option_copied result ≡ shown (option_copied place.entry) }
+    ensures { option_copied result ≡ visible (option_copied place.entry) }
 {
     match place {
         Some(Place::Here(entry)) => Some(entry),
@@ -83,7 +83,7 @@ pub(crate) fn serve(place: &mut Place<Termination>, service: Service)
 /// that copies are equal.
 pub(crate) fn renew<T: Clone + Drop>(place: &mut Place<T>) -> Result<Option<T>, NoMemory>
     requires { (a b : T) → T.is_clone a b → b ≡ a }
-    ensures before { IfOk result (λ before. before ≡ shown (Some place.old)) }
+    ensures before { IfOk result (λ before. before ≡ visible (Some place.old)) }
     ensures after { place.new ≡ place.old }
 {
     let Place::Here(entry) = place else {

@@ -8,15 +8,15 @@ ghost use Rattle.gw_table.specs.Found.{IsFound, unlogged_of};
 ghost use Rattle.gw_table.specs.Joining.{joined_at, left_at};
 ghost use Rattle.gw_table.specs.KeptSettings.{IsKept, MayKeep};
 ghost use Rattle.gw_table.specs.Maps.{members_of};
-ghost use Rattle.gw_table.specs.Originals.{keys_written, has_properties};
+ghost use Rattle.gw_table.specs.UndoLog.{keys_written, has_properties};
 ghost use Rattle.gw_table.specs.Settings.{set_at};
-ghost use Rattle.gw_table.specs.Stored.{shown, served, emptied};
+ghost use Rattle.gw_table.specs.Stored.{visible, served, emptied};
 
 use crate::joining::{join_in_place, leave_in_place};
-use crate::originals::Write;
 use crate::place::{Place, renew, serve};
 use crate::rows::Guide;
 use crate::setting::{Setting, is_set, set_in_place};
+use crate::undo_log::Write;
 use gw_base::{CtxNum, Key, NoMemory, Service, TermName};
 use gw_ctx::Context;
 use gw_term::Termination;
@@ -134,7 +134,7 @@ impl<T> Row<T> {
 
     /// Whether an entry stands here.
     pub(crate) fn is_here(&self) -> bool
-        ensures { result ≡ is_some (shown (Some self.now)) }
+        ensures { result ≡ is_some (visible (Some self.now)) }
     {
         self.place.is_here()
     }
@@ -158,7 +158,7 @@ impl<T> Row<T> {
 impl<T: Drop> Row<T> {
     /// Puts something else here. What stood here is dropped where the key is logged, and else it is to be logged next.
     pub(crate) fn write(&mut self, new: Place<T>, writes: &[Write], key: &Key) -> Found<T>
-        ensures found { IsFound (keys_written writes.now) key.now (shown (Some self.old)) result }
+        ensures found { IsFound (keys_written writes.now) key.now (visible (Some self.old)) result }
         ensures after { self.new ≡ new }
     {
         if self.is_logged(writes, key) {
@@ -175,7 +175,7 @@ impl<T: Clone + Drop> Row<T> {
     /// and what stood here is to be logged next. The caller knows that copies are equal. Nothing else changes.
     fn own(&mut self, writes: &[Write], key: &Key) -> Result<Found<T>, NoMemory>
         requires { (a b : T) → T.is_clone a b → b ≡ a }
-        ensures found { IfOk result (λ found. IsFound (keys_written writes.now) key.now (shown (Some self.old)) found) }
+        ensures found { IfOk result (λ found. IsFound (keys_written writes.now) key.now (visible (Some self.old)) found) }
         ensures after { self.new ≡ self.old }
     {
         if self.is_logged(writes, key) {
@@ -197,7 +197,7 @@ impl Row<Termination> {
         writes: &[Write],
         key: &Key,
     ) -> Result<Found<Termination>, NoMemory>
-        ensures found { IfOk result (λ found. IsFound (keys_written writes.now) key.now (shown (Some self.old)) found) }
+        ensures found { IfOk result (λ found. IsFound (keys_written writes.now) key.now (visible (Some self.old)) found) }
         ensures after { OnOk result (self.new ≡ served service self.old) }
         ensures err { OnErr result (self.new ≡ self.old) }
     {
@@ -215,8 +215,8 @@ impl Row<Context> {
         writes: &[Write],
         key: &Key,
     ) -> Result<(Option<Context>, Found<Context>), NoMemory>
-        ensures context { IfOk result (λ taken. taken.0 ≡ shown (Some self.old)) }
-        ensures found { IfOk result (λ taken. IsFound (keys_written writes.now) key.now (shown (Some self.old)) taken.1) }
+        ensures context { IfOk result (λ taken. taken.0 ≡ visible (Some self.old)) }
+        ensures found { IfOk result (λ taken. IsFound (keys_written writes.now) key.now (visible (Some self.old)) taken.1) }
         ensures after { OnOk result (self.new ≡ emptied self.old) }
         ensures err { OnErr result (self.new ≡ self.old) }
     {
@@ -273,9 +273,9 @@ impl Row<Context> {
         writes: &[Write],
         key: &Key,
     ) -> Result<Found<Context>, NoMemory>
-        requires new { is_in name (members_of (shown (Some self.old))) ≡ false }
-        requires room { length (members_of (shown (Some self.old))) < limit }
-        ensures found { IfOk result (λ found. IsFound (keys_written writes.now) key.now (shown (Some self.old)) found) }
+        requires new { is_in name (members_of (visible (Some self.old))) ≡ false }
+        requires room { length (members_of (visible (Some self.old))) < limit }
+        ensures found { IfOk result (λ found. IsFound (keys_written writes.now) key.now (visible (Some self.old)) found) }
         ensures after { OnOk result (self.new ≡ joined_at name self.old) }
         ensures err { OnErr result (self.new ≡ self.old) }
     {
@@ -292,7 +292,7 @@ impl Row<Context> {
         writes: &[Write],
         key: &Key,
     ) -> Result<Found<Context>, NoMemory>
-        ensures found { IfOk result (λ found. IsFound (keys_written writes.now) key.now (shown (Some self.old)) found) }
+        ensures found { IfOk result (λ found. IsFound (keys_written writes.now) key.now (visible (Some self.old)) found) }
         ensures after { OnOk result (self.new ≡ left_at name.now self.old) }
         ensures err { OnErr result (self.new ≡ self.old) }
     {

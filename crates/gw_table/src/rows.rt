@@ -6,9 +6,9 @@ ghost use Rattle.std.specs.BTreeMap.{is_at};
 ghost use Rattle.std.specs.Iterator.{at_most};
 ghost use Rattle.std.specs.Map.{lookup};
 ghost use Rattle.std.specs.Map.Iter.{TakesFirst, deref_pair};
-ghost use Rattle.std.specs.Option.{option_copied_mut, option_map};
+ghost use Rattle.std.specs.Option.{option_copied_mut};
 ghost use Rattle.gw_table.specs.Rows.{found, row_at, place_of_row, rowed, IsRising, IsTied, Puts};
-ghost use Rattle.gw_table.specs.Stored.{shown, if_shown};
+ghost use Rattle.gw_table.specs.Stored.{visible, if_visible};
 
 use crate::row::Row;
 use gw_base::NoMemory;
@@ -27,17 +27,32 @@ pub(crate) struct KeyedRow<K, T> {
 /// Where a key was found. That is a guide alone: what stands there is looked at before it is believed, so that an old
 /// one costs a search and does no harm.
 #[derive(Clone, Copy)]
-pub struct Guide(usize);
+pub struct Guide(u32);
 
 impl Guide {
     /// Of a key that was not looked for.
     pub fn none() -> Guide {
-        Guide(usize::MAX)
+        Guide(u32::MAX)
     }
 
-    /// Of the row with this number.
+    /// Of the row with this number. Of one that does not fit it is as of none.
     pub(crate) fn at(number: usize) -> Guide {
-        Guide(number)
+        Guide(u32::try_from(number).unwrap_or(u32::MAX))
+    }
+}
+
+/// The guide of the key with this index in a list. A missing one is as of none.
+pub(crate) fn guide_at(guides: &[Guide], i: usize) -> Guide {
+    match guides.get(i) {
+        Some(guide) => *guide,
+        None => Guide::none(),
+    }
+}
+
+/// Sets the guide of the key with this index, if the list has one.
+pub(crate) fn set_guide(guides: &mut [Guide], i: usize, guide: Guide) {
+    if let Some(old) = guides.get_mut(i) {
+        *old = guide;
     }
 }
 
@@ -81,9 +96,10 @@ fn number_of<K: Ord, T>(
     requires { IsTied K.cmp index.now.entries rows.now.slots }
     ensures { result ≡ lookup (is_at (K.cmp key.now)) index.now.entries }
 {
-    if let Some(keyed) = rows.get(guide.0) {
+    let number = guide.0 as usize;
+    if let Some(keyed) = rows.get(number) {
         if keyed.key == *key {
-            return Some(guide.0);
+            return Some(number);
         }
     }
     match index.get(key) {
@@ -123,28 +139,27 @@ impl<K: Ord, T> Rows<K, T> {
         self.index.len()
     }
 
-    /// Whether a key has a row.
-    pub(crate) fn contains_key(&self, key: &K) -> bool
-        ensures { result ≡ is_some (found K.cmp self.now key.now) }
-    {
-        self.index.contains_key(key)
-    }
-
     /// Where the row of a key is, if it has one.
-    pub(crate) fn guide(&self, key: &K) -> Guide {
+    pub(crate) fn find(&self, key: &K) -> Option<Guide>
+        ensures { is_some result ≡ is_some (found K.cmp self.now key.now) }
+    {
         match self.index.get(key) {
-            Some(number) => Guide(*number),
-            None => Guide::none(),
+            Some(number) => Some(Guide::at(*number)),
+            None => None,
         }
     }
 
-    /// What stands at a key, and where its row is. The guide is looked at first, and where it is right the key is not
-    /// searched for.
-    pub(crate) fn get_at(&self, guide: Guide, key: &K) -> Option<(&Row<T>, Guide)>
-        ensures { option_map (λ p. p.0.now) result ≡ found K.cmp self.now key.now }
+    /// Where the next row that is made will be.
+    pub(crate) fn next_guide(&self) -> Guide {
+        Guide::at(self.rows.vacant_key())
+    }
+
+    /// What stands at a key. The guide is looked at first, and where it is right the key is not searched for.
+    pub(crate) fn get_at(&self, guide: Guide, key: &K) -> Option<&Row<T>>
+        ensures { option_copied result ≡ found K.cmp self.now key.now }
     {
         match number_of(&self.index, &self.rows, guide, key) {
-            Some(number) => Some((&self.rows[number].row, Guide(number))),
+            Some(number) => Some(&self.rows[number].row),
             None => None,
         }
     }
@@ -153,10 +168,7 @@ impl<K: Ord, T> Rows<K, T> {
     pub(crate) fn get(&self, key: &K) -> Option<&Row<T>>
         ensures value { option_copied result ≡ found K.cmp self.now key.now }
     {
-        match self.get_at(Guide::none(), key) {
-            Some((row, _)) => Some(row),
-            None => None,
-        }
+        self.get_at(Guide::none(), key)
     }
 
     /// What stands at a key, to be changed.
@@ -181,7 +193,7 @@ impl<K: Ord, T> Rows<K, T> {
 
 /// Whether an entry stands in the row with a number.
 fn is_here_at<K, T>(rows: &Slab<KeyedRow<K, T>>, number: usize) -> bool
-    ensures { result ≡ is_some (shown (place_of_row (row_at rows.now.slots number))) }
+    ensures { result ≡ is_some (visible (place_of_row (row_at rows.now.slots number))) }
 {
     match rows.get(number) {
         Some(keyed) => keyed.row.is_here(),
@@ -222,7 +234,7 @@ impl<K: Ord + Copy + Drop, T: Drop> Rows<K, T> {
 
     /// Drops the rows in which no entry stands.
     pub(crate) fn sweep(&mut self)
-        ensures { (q : K) → found K.cmp self.new q ≡ if_shown (found K.cmp self.old q) }
+        ensures { (q : K) → found K.cmp self.new q ≡ if_visible (found K.cmp self.old q) }
     {
         let rows = &self.rows;
         self.index.retain(|_, number| is_here_at(rows, *number));

@@ -4,17 +4,17 @@ ghost use Rattle.std.specs.Prelude.{◌≡◌, true, OnOk};
 ghost use Rattle.std.specs.Bool.{OnTrue};
 ghost use Rattle.gw_base.specs.declared.key.Key.TheVariants.{Ctx};
 ghost use Rattle.gw_table.specs.Maps.{ctx};
-ghost use Rattle.gw_table.specs.Originals.{IsInPlace};
+ghost use Rattle.gw_table.specs.UndoLog.{IsInPlace};
 ghost use Rattle.gw_table.specs.Parts.{holds};
 ghost use Rattle.gw_table.specs.Settings.{with_setting, put_setting, set_at, set_place};
 ghost use Rattle.gw_table.specs.Stored.{maps_of, Stored};
 
 use crate::draft::{Backing, Draft};
 use crate::in_place::InPlace;
-use crate::originals::Write;
 use crate::part::Part;
 use crate::place::Place;
 use crate::tables::Tables;
+use crate::undo_log::Write;
 use gw_base::{CtxNum, NoMemory};
 use gw_ctx::Context;
 use std::alloc::Global;
@@ -24,9 +24,9 @@ use std::alloc::Global;
 pub enum Setting {
     /// Its priority.
     Priority(u8),
-    /// It is marked as an emergency.
+    /// It is an emergency.
     Emergency,
-    /// Both, as they were: its priority, and whether it was marked as an emergency.
+    /// Both, as they were: its priority, and whether it was an emergency.
     Both(u8, bool),
 }
 

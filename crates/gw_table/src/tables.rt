@@ -12,23 +12,23 @@ use crate::reserved::SLOTS;
 use crate::row::{Row, place_at};
 use crate::rows::{Guide, Rows};
 use gw_base::{Config, CtxNum, NoMemory, TermName};
+use gw_bits::BitSet;
 use gw_ctx::Context;
-use gw_marks::Marks;
 use gw_term::Termination;
 use std::alloc::Global;
 use std::marker::Model;
 
-/// The numbers below this one can be marked: all numbers of contexts.
+/// The numbers below this one have a bit: all numbers of contexts.
 const NUMBERS: u32 = 65536;
 
 /// Terminations by name, and contexts by number, each by its handle in a place. A look-up takes log n steps. Numbers
-/// and slots of which an entry stands are marked, by a bit for each, for the search for free ones.
+/// and slots of which an entry stands have a bit that is set, for the search for free ones.
 pub struct Tables {
     pub(crate) terms: Rows<TermName, Termination>,
     pub(crate) contexts: Rows<u32, Context>,
-    // Of what is marked an entry stands. One that is not marked may stand too.
-    pub(crate) numbers: Marks,
-    pub(crate) slots: Marks,
+    // Where a bit is set an entry stands. Where it is not one may stand too.
+    pub(crate) numbers: BitSet,
+    pub(crate) slots: BitSet,
 }
 
 // By hand, so that a function that drops tables does so by one call. A derived one would stand in it field by field.
@@ -45,7 +45,7 @@ impl Drop for Tables {
 
 impl Model for Tables {
     ghost use Rattle.std.specs.FinMap as finite;
-    ghost use Rattle.gw_table.specs.Marking.{AreMarked};
+    ghost use Rattle.gw_table.specs.Marking.{AreSet};
     ghost use Rattle.gw_table.specs.Stored.{Stored, coded_stored, stored, maps_of};
 
     ghost Value = { Stored };
@@ -54,31 +54,31 @@ impl Model for Tables {
 
     ghost view = { λ a. record { terms = finite.from_entries a.terms.entries; contexts = finite.from_entries a.contexts.entries } };
 
-    ghost invariant = { λ a. AreMarked a.numbers a.slots (maps_of (stored a.terms.entries a.contexts.entries)) };
+    ghost invariant = { λ a. AreSet a.numbers a.slots (maps_of (stored a.terms.entries a.contexts.entries)) };
 }
 
 impl Tables {
-    /// Tables without places, which take no memory. Nothing that comes to stand in them is marked.
+    /// Tables without places, which take no memory. They set no bits.
     pub fn new(alloc: Global) -> Self
         ensures { result ≡ nothing_stored }
     {
         Tables {
             terms: Rows::new(alloc),
             contexts: Rows::new(alloc),
-            numbers: Marks::new(alloc),
-            slots: Marks::new(alloc),
+            numbers: BitSet::new(alloc),
+            slots: BitSet::new(alloc),
         }
     }
 
-    /// Tables without places, in which what comes to stand is marked, with room for so many terminations.
+    /// Tables without places, which set the bits of what comes to stand in them, with room for so many terminations.
     fn marking(alloc: Global, terms: usize) -> Result<Tables, NoMemory>
         ensures { IfOk result (λ tables. tables ≡ nothing_stored) }
     {
         Ok(Tables {
             terms: Rows::with_room(alloc, terms)?,
             contexts: Rows::new(alloc),
-            numbers: Marks::with_room(alloc, NUMBERS)?,
-            slots: Marks::with_room(alloc, u32::from(SLOTS))?,
+            numbers: BitSet::with_room(alloc, NUMBERS)?,
+            slots: BitSet::with_room(alloc, u32::from(SLOTS))?,
         })
     }
 
@@ -137,10 +137,10 @@ impl Tables {
         Ok(())
     }
 
-    /// The configured terminations, all in the null context, and no contexts. A name that is given twice is there
-    /// once. No other key is prepared. The work is n log n in the names. Names that come in order are put in in two turns, so that the second
-    /// fills the nodes that the first left half full. There is room for the mark of each number and of each slot,
-    /// 8,704 bytes.
+    /// The configured terminations, all in the null context, and no contexts. A name that is given twice is there once.
+    /// No other key is prepared. The work is n log n in the names. Names that come in order are put in in two turns, so
+    /// that the second fills the nodes that the first left half full. There is room for the mark of each number and of
+    /// each slot, 8,704 bytes.
     ///
     /// # Errors
     ///
@@ -172,11 +172,11 @@ impl Tables {
     ) -> Option<(&Termination, Guide)>
         ensures { option_map (λ p. p.0.now) result ≡ term (maps_of self.now) name.now }
     {
-        let Some((row, guide)) = self.terms.get_at(guide, name) else {
+        let Some(row) = self.terms.get_at(guide, name) else {
             return None;
         };
         match entry_at(Some(row.place())) {
-            Some(termination) => Some((termination, guide)),
+            Some(termination) => Some((termination, row.guide())),
             None => None,
         }
     }

@@ -71,7 +71,7 @@ fn write_priority(number: CtxNum, priority: u8, out: &mut Vec<u8>) -> Result<(),
     Ok(())
 }
 
-/// A line where the context is marked.
+/// A line where the context is an emergency.
 fn write_emergency(number: CtxNum, emergency: bool, out: &mut Vec<u8>) -> Result<(), AllocError>
     ensures { OnOk result (out.new.items ≡ out.old.items ++ emergency_line number emergency) }
 {
@@ -177,7 +177,7 @@ fn write_terms(tables: &Tables, names: &[TermName], out: &mut Vec<u8>) -> Result
 
 impl Tables {
     /// Writes a line `context <number> <members>` for each context, the numbers rising, each with lines behind it for
-    /// its properties: `priority <number> <priority>` where it is not 0, `emergency <number>` where it is marked, and
+    /// its properties: `priority <number> <priority>` where it is not 0, `emergency <number>` where it is one, and
     /// `topology <number> <name> <name> <Oneway or Isolate>` for each link. Behind the contexts stands a line `term
     /// <name> <context or -> <service state>` for each termination, in the order of the bytes of their names. The
     /// work is linear in the text, but for a look-up for each context and termination.

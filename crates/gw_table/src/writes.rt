@@ -4,15 +4,15 @@ ghost use Rattle.std.specs.Prelude.{◌≡◌, IfOk, OnOk, OnErr};
 ghost use Rattle.gw_base.specs.declared.key.Key.TheVariants.{Term, Ctx};
 ghost use Rattle.gw_table.specs.Found.{IsFound};
 ghost use Rattle.gw_table.specs.Maps.{term, ctx};
-ghost use Rattle.gw_table.specs.Originals.{keys_written};
+ghost use Rattle.gw_table.specs.UndoLog.{keys_written};
 ghost use Rattle.gw_table.specs.Stored.{maps_of, put_term_place, put_ctx_place, with_service, without_ctx};
 
-use crate::marked::{set_number, set_slot};
-use crate::originals::Write;
+use crate::in_use::{set_number, set_slot};
 use crate::place::Place;
 use crate::row::{Found, Row};
 use crate::rows::Guide;
 use crate::tables::Tables;
+use crate::undo_log::Write;
 use gw_base::{CtxNum, Key, NoMemory, Service, TermName};
 use gw_ctx::Context;
 use gw_term::Termination;

@@ -16,37 +16,37 @@ use Rattle.gw_term.specs.Places.{rising}
 use Rattle.gw_term.specs.Record.{tail_of}
 
 -- a stream that is there, as it is written
-abbrev pub stream_told : ℕ → Option Stream → List StreamReply
-stream_told number None = []
-stream_told number (Some s) = (record { number = number; mode = s.mode; properties = s.properties; local = s.local; remote = s.remote }) ∷ []
+abbrev pub written_stream : ℕ → Option Stream → List StreamReply
+written_stream number None = []
+written_stream number (Some s) = (record { number = number; mode = s.mode; properties = s.properties; local = s.local; remote = s.remote }) ∷ []
 
-abbrev pub streams_told : Termination → List StreamReply
-streams_told r = rising stream_told r.settings.streams
+abbrev pub written_streams : Termination → List StreamReply
+written_streams r = rising written_stream r.settings.streams
 
 -- the service state, the properties and the streams, rising
-abbrev pub media_told : Termination → MediaReply
-media_told r = record { service = r.service; properties = r.settings.properties; streams = streams_told r }
+abbrev pub written_media : Termination → MediaReply
+written_media r = record { service = r.service; properties = r.settings.properties; streams = written_streams r }
 
 -- a tail that is kept, or the bare word
-abbrev pub tail_told : KeptKind → Option (Tail (List ℕ)) → ReplyPart
-tail_told kind None = part.Bare (item.Kept kind)
-tail_told kind (Some tail) = part.Kept kind tail
+abbrev pub written_tail : KeptKind → Option (Tail (List ℕ)) → ReplyPart
+written_tail kind None = part.Bare (item.Kept kind)
+written_tail kind (Some tail) = part.Kept kind tail
 
-abbrev pub item_told : Termination → AuditItem → ReplyPart
-item_told r item.Media = part.Media (media_told r)
-item_told r (item.Kept kind) = tail_told kind (tail_of kind r)
-item_told r item.Statistics = part.Bare item.Statistics
-item_told r item.ObservedEvents = part.Bare item.ObservedEvents
-item_told r item.Packages = part.Bare item.Packages
+abbrev pub written_item : Termination → AuditItem → ReplyPart
+written_item r item.Media = part.Media (written_media r)
+written_item r (item.Kept kind) = written_tail kind (tail_of kind r)
+written_item r item.Statistics = part.Bare item.Statistics
+written_item r item.ObservedEvents = part.Bare item.ObservedEvents
+written_item r item.Packages = part.Bare item.Packages
 
 -- what a word requests; a word that requests nothing is not answered
-abbrev pub told_if : Termination → Option AuditItem → List ReplyPart
-told_if r None = []
-told_if r (Some i) = item_told r i ∷ []
+abbrev pub written_if : Termination → Option AuditItem → List ReplyPart
+written_if r None = []
+written_if r (Some i) = written_item r i ∷ []
 
-abbrev pub word_told : Termination → List ℕ → List ReplyPart
-word_told r word = told_if r (item_of word)
+abbrev pub written_word : Termination → List ℕ → List ReplyPart
+written_word r word = written_if r (item_of word)
 
 -- the parts that answer the words of an Audit
 unfoldable pub audit_parts : List (List ℕ) → Termination → List ReplyPart
-audit_parts words r = flat_map (word_told r) words
+audit_parts words r = flat_map (written_word r) words

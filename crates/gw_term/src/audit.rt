@@ -1,7 +1,7 @@
 //! What a termination answers to an Audit.
 
 ghost use Rattle.std.specs.Prelude.{◌≡◌, ◌≤◌, ◌++◌, IfOk, OnOk};
-ghost use Rattle.gw_term.specs.Audit.{stream_told, media_told, tail_told, item_told, word_told};
+ghost use Rattle.gw_term.specs.Audit.{written_stream, written_media, written_tail, written_item, written_word};
 ghost use Rattle.gw_term.specs.Places.{at_number, at_kind, rising};
 
 use crate::held::HeldProperty;
@@ -35,7 +35,7 @@ fn push_stream(
 ) -> Result<(), NoMemory>
     requires first { 1 ≤ number }
     requires last { number ≤ 4 }
-    ensures { OnOk result (streams.new ≡ streams.old ++ stream_told number (at_number number settings.now.streams)) }
+    ensures { OnOk result (streams.new ≡ streams.old ++ written_stream number (at_number number settings.now.streams)) }
 {
     let Some(stream) = settings.stream(number) else {
         return Ok(());
@@ -56,7 +56,7 @@ fn push_streams(
     settings: &Settings,
     streams: &mut Items<StreamReply>,
 ) -> Result<(), NoMemory>
-    ensures { OnOk result (streams.new ≡ streams.old ++ rising stream_told settings.now.streams) }
+    ensures { OnOk result (streams.new ≡ streams.old ++ rising written_stream settings.now.streams) }
 {
     push_stream(alloc, 1, settings, streams)?;
     push_stream(alloc, 2, settings, streams)?;
@@ -65,7 +65,7 @@ fn push_streams(
 }
 
 fn reply_media(alloc: Global, termination: &Termination) -> Result<MediaReply, NoMemory>
-    ensures { IfOk result (λ media. media ≡ media_told termination.now) }
+    ensures { IfOk result (λ media. media ≡ written_media termination.now) }
 {
     let properties = reply_properties(alloc, termination.settings.properties())?;
     let mut streams = Items::new(alloc);
@@ -79,7 +79,7 @@ fn reply_media(alloc: Global, termination: &Termination) -> Result<MediaReply, N
 
 /// The tail of this kind, or the bare word where there is none.
 fn reply_tail(alloc: Global, kind: KeptKind, settings: &Settings) -> Result<ReplyPart, NoMemory>
-    ensures { IfOk result (λ part. part ≡ tail_told kind (at_kind kind settings.now.tails)) }
+    ensures { IfOk result (λ part. part ≡ written_tail kind (at_kind kind settings.now.tails)) }
 {
     match settings.tail(kind) {
         Some(tail) => Ok(ReplyPart::Kept(kind, tail.to_reply(alloc)?)),
@@ -92,7 +92,7 @@ fn reply_part(
     termination: &Termination,
     item: AuditItem,
 ) -> Result<ReplyPart, NoMemory>
-    ensures { IfOk result (λ part. part ≡ item_told termination.now item) }
+    ensures { IfOk result (λ part. part ≡ written_item termination.now item) }
 {
     match item {
         AuditItem::Media => Ok(ReplyPart::Media(reply_media(alloc, termination)?)),
@@ -110,7 +110,7 @@ fn push_part(
     word: &[u8],
     parts: &mut AuditReply,
 ) -> Result<(), NoMemory>
-    ensures { OnOk result (parts.new ≡ parts.old ++ word_told termination.now word.now) }
+    ensures { OnOk result (parts.new ≡ parts.old ++ written_word termination.now word.now) }
 {
     if let Some(item) = item_of(word) {
         parts.push(reply_part(alloc, termination, item)?)?;

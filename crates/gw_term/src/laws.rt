@@ -37,7 +37,7 @@ pub fn look_ups_after_a_merge()
 pub fn merges_keep_forms()
     ensures keeps { (rules : RulesOf) (descriptors : List DescriptorOf) (old new : Record) → IsAddress rules.media → All HasKeptTexts descriptors → IsKeptRecord old → merged rules descriptors old ≡ Some new → IsKeptRecord new }
     ensures filled { (rules : RulesOf) (descriptors : List DescriptorOf) (old : Record) → IsAddress rules.media → All HasKeptTexts descriptors → IsKeptRecord old → All IsKeptFilled (filled_by rules descriptors old) }
-    ensures told { (words : List (List ℕ)) (r : Record) → IsKeptRecord r → All HasKeptReply (audit_parts words r) }
+    ensures read_back { (words : List (List ℕ)) (r : Record) → IsKeptRecord r → All HasKeptReply (audit_parts words r) }
     ensures placed { (r : Record) (place : OptionOf CtxNumOf) → IsKeptRecord r → IsKeptRecord (placed r place) }
     ensures serviced { (r : Record) (service : ServiceOf) → IsKeptRecord r → IsKeptRecord (serviced r service) }
     ensures none { (place : OptionOf CtxNumOf) (service : ServiceOf) (slot : OptionOf ℕ) → IsKeptRecord (unset place service slot) }

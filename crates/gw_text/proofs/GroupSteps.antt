@@ -13,7 +13,7 @@ use Rattle.gw_text.specs.QuotedScan.{quoted_len}
 use Rattle.gw_text.specs.Octets.{IsOctets}
 use Rattle.gw_text.specs.OctetsScan.{octets_ends}
 use Rattle.gw_text.specs.Group.{is_mark, after_word, after_mark, begins_octets}
-use Rattle.gw_text.specs.GroupScan.{ScanStep, place, passed, octets_passed, brace_at, opened, marked, spaced, step_at, go_on, group_from, group_rest}
+use Rattle.gw_text.specs.GroupScan.{ScanStep, place, passed, octets_passed, brace_at, opened, after_sign, spaced, step_at, go_on, group_from, group_rest}
 use Rattle.gw_text.specs.declared.group.Before.{Before}
 use Rattle.gw_text.specs.declared.group.Before.TheVariants.{Equals, OctetsWord, Other}
 use Rattle.gw_text.specs.declared.group.Place.{Place}
@@ -119,7 +119,7 @@ mark_is : (s o z q l r : Bool) → s ≡ false → o ≡ true → z ≡ false �
 mark_is s o z q l r a b c d e f = rw (a, b, c, d, e, f) refl
 
 mark_taken : (limit : ℕ) (at : Place) (b : ℕ) (bs : List ℕ) (next : Place) (n : ℕ) → b == left_brace ≡ false → b == right_brace ≡ false → b == quote_mark ≡ false → is_safe b ≡ false → is_solid b ≡ true
-    → marked at b ≡ Ok (next, n) → Taken limit at.depth at.before (b ∷ bs) (drop n (b ∷ bs)) next
+    → after_sign at b ≡ Ok (next, n) → Taken limit at.depth at.before (b ∷ bs) (drop n (b ∷ bs)) next
 mark_taken limit at b bs next n l r q s o e =
     guarded (Taken limit at.depth at.before (b ∷ bs) (drop n (b ∷ bs)) next) (b == nul) Unexpected (Ok (place at.depth (after_mark b), 1)) (next, n) e
     (λ z more. ok_parts (Taken limit at.depth at.before (b ∷ bs) (drop n (b ∷ bs)) next) (place at.depth (after_mark b)) next 1 n more

@@ -29,7 +29,7 @@ sent_as word text token l reads is = ap token_of (text_from_reads word text l re
 -- ---- the word that comes next
 
 pub is_form : (token : Token) (form : List ℕ) → 0 < length form → list_all is_safe form ≡ true → token_of form ≡ Some token → IsForm token form
-is_form token form some safe told = record { some = some; safe = safe; told = told }
+is_form token form some safe recognized = record { some = some; safe = safe; recognized = recognized }
 
 begins_read : (rest : List ℕ) → 0 < length rest → begins is_safe rest ≡ is_safe (get_or rest 0 0)
 begins_read [] h = absurd (omega arith)

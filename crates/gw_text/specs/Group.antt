@@ -1,5 +1,5 @@
 -- Groups in braces, which are kept as sent (own reading). A group is `{`, pieces and `}`: white space, quoted texts,
--- words, marks, octets and groups within it. Octets stand in braces behind a word Local or Remote that does not follow
+-- words, signs, octets and groups within it. Octets stand in braces behind a word Local or Remote that does not follow
 -- `=`, white space aside.
 use Rattle.std.specs.Prelude.{◌≡◌, ◌<◌, ◌-◌, ◌==◌, ◌&&◌, not, ℕ, Bool, true, false, if◌then◌else◌, List, [], ◌∷◌, ◌++◌, length, Option, Some}
 use Rattle.gw_text.specs.Lexical.{nul, quote_mark, left_brace, right_brace, equals_sign, is_safe, is_solid}

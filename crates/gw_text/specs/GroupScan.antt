@@ -41,8 +41,8 @@ opened limit at inner = if nat_le limit at.depth then Err TooDeep else brace_at 
 abbrev pub spaced : Place → ℕ → ScanStep
 spaced at len = if len == 0 then Err Unexpected else Ok (at, len)
 
-abbrev pub marked : Place → ℕ → ScanStep
-marked at b = if b == nul then Err Unexpected else Ok (place at.depth (after_mark b), 1)
+abbrev pub after_sign : Place → ℕ → ScanStep
+after_sign at b = if b == nul then Err Unexpected else Ok (place at.depth (after_mark b), 1)
 
 -- at the first byte of a piece
 abbrev pub piece_at : ℕ → Place → ℕ → List ℕ → ScanStep
@@ -51,7 +51,7 @@ piece_at limit at b bs =
     else if b == right_brace then Ok (place (at.depth - 1) Other, 1)
     else if b == quote_mark then passed (place at.depth Other) (quoted_len (b ∷ bs))
     else if is_safe b then Ok (place at.depth (after_word at.before (take (run_len is_safe (b ∷ bs)) (b ∷ bs))), run_len is_safe (b ∷ bs))
-    else if is_solid b then marked at b
+    else if is_solid b then after_sign at b
     else spaced at (space_len (b ∷ bs))
 
 -- over the next piece

@@ -25,10 +25,10 @@ rows_in letter = filter (λ s. begins_in letter s.long || begins_in letter s.sho
 pub record IsForm (token : Token) (form : List ℕ) : Type 0 where
   pub some : 0 < length form
   pub safe : IsRun is_safe form
-  pub told : token_of form ≡ Some token
+  pub recognized : token_of form ≡ Some token
 
 -- the word that comes next is of this token, and has so many bytes
 pub record IsNext (token : Token) (len : ℕ) (text : List ℕ) : Type 0 where
   pub some : 0 < len
   pub word : run_len is_safe text ≡ len
-  pub told : token_of (take len text) ≡ Some token
+  pub recognized : token_of (take len text) ≡ Some token

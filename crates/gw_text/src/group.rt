@@ -3,7 +3,7 @@
 ghost use Rattle.std.specs.Prelude.{◌≡◌, ◌≤◌, ◌+◌, ◌<◌, ◌^◌, length, IfOk};
 ghost use Rattle.gw_text.specs.SpaceScan.{space_len};
 ghost use Rattle.gw_text.specs.Group.{after_word, after_mark, is_octets_word};
-ghost use Rattle.gw_text.specs.GroupScan.{opened, marked, spaced, step_at, group_rest, balanced_at, place, IsRest, IsLen};
+ghost use Rattle.gw_text.specs.GroupScan.{opened, after_sign, spaced, step_at, group_rest, balanced_at, place, IsRest, IsLen};
 ghost use Rattle.gw_text.specs.declared.group.Before.TheVariants as before;
 
 use crate::class::{is_safe, is_solid};
@@ -85,8 +85,8 @@ fn opened(limit: u32, at: Place, inner: &[u8]) -> Result<(Place, usize), ScanFau
 }
 
 /// Over a byte that is a piece alone.
-fn marked(at: Place, b: u8) -> Result<(Place, usize), ScanFault>
-    ensures value { result ≡ marked at b }
+fn after_sign(at: Place, b: u8) -> Result<(Place, usize), ScanFault>
+    ensures value { result ≡ after_sign at b }
     ensures within { IfOk result (λ next. next.1 ≤ 1) }
 {
     if b == 0 {
@@ -133,7 +133,7 @@ fn step(limit: u32, at: Place, text: &[u8]) -> Result<(Place, usize), ScanFault>
         return Ok((Place::new(at.depth, before), len));
     }
     if is_solid(*b) {
-        return marked(at, *b);
+        return after_sign(at, *b);
     }
     spaced(at, text)
 }

@@ -277,7 +277,7 @@ fn is_next(text: &[u8], form: &[u8]) -> bool
 
 /// The token and the length of its form, where that is the word that comes next.
 #[inline(always)]
-fn told(text: &[u8], form: &[u8], token: Token) -> Option<(Token, usize)>
+fn recognized(text: &[u8], form: &[u8], token: Token) -> Option<(Token, usize)>
     requires { IsForm token form.now }
     ensures { IfSome result (λ r. IsNext r.0 r.1 text.now) }
 {
@@ -290,14 +290,19 @@ fn told(text: &[u8], form: &[u8], token: Token) -> Option<(Token, usize)>
 
 /// The same of either form.
 #[inline(always)]
-fn told_by_either(text: &[u8], long: &[u8], short: &[u8], token: Token) -> Option<(Token, usize)>
+fn recognized_by_either(
+    text: &[u8],
+    long: &[u8],
+    short: &[u8],
+    token: Token,
+) -> Option<(Token, usize)>
     requires long { IsForm token long.now }
     requires short { IsForm token short.now }
     ensures { IfSome result (λ r. IsNext r.0 r.1 text.now) }
 {
-    match told(text, long, token) {
+    match recognized(text, long, token) {
         Some(found) => Some(found),
-        None => told(text, short, token),
+        None => recognized(text, short, token),
     }
 }
 
@@ -311,30 +316,30 @@ pub fn often_next(text: &[u8]) -> Option<(Token, usize)>
         return None;
     };
     match *first {
-        b'A' => match told_by_either(text, b"Add", b"A", Token::Add) {
+        b'A' => match recognized_by_either(text, b"Add", b"A", Token::Add) {
             Some(found) => Some(found),
-            None => told_by_either(text, b"AuditValue", b"AV", Token::AuditValue),
+            None => recognized_by_either(text, b"AuditValue", b"AV", Token::AuditValue),
         },
-        b'C' => told_by_either(text, b"Context", b"C", Token::Context),
-        b'E' => told_by_either(text, b"Events", b"E", Token::Events),
-        b'L' => match told_by_either(text, b"Local", b"L", Token::Local) {
+        b'C' => recognized_by_either(text, b"Context", b"C", Token::Context),
+        b'E' => recognized_by_either(text, b"Events", b"E", Token::Events),
+        b'L' => match recognized_by_either(text, b"Local", b"L", Token::Local) {
             Some(found) => Some(found),
-            None => told(text, b"LocalControl", Token::LocalControl),
+            None => recognized(text, b"LocalControl", Token::LocalControl),
         },
-        b'M' => match told_by_either(text, b"Media", b"M", Token::Media) {
+        b'M' => match recognized_by_either(text, b"Media", b"M", Token::Media) {
             Some(found) => Some(found),
-            None => told_by_either(text, b"Modify", b"MF", Token::Modify),
+            None => recognized_by_either(text, b"Modify", b"MF", Token::Modify),
         },
-        b'O' => told(text, b"O", Token::LocalControl),
-        b'R' => told_by_either(text, b"Remote", b"R", Token::Remote),
-        b'S' => match told_by_either(text, b"Stream", b"ST", Token::Stream) {
+        b'O' => recognized(text, b"O", Token::LocalControl),
+        b'R' => recognized_by_either(text, b"Remote", b"R", Token::Remote),
+        b'S' => match recognized_by_either(text, b"Stream", b"ST", Token::Stream) {
             Some(found) => Some(found),
-            None => match told_by_either(text, b"Subtract", b"S", Token::Subtract) {
+            None => match recognized_by_either(text, b"Subtract", b"S", Token::Subtract) {
                 Some(found) => Some(found),
-                None => told_by_either(text, b"Signals", b"SG", Token::Signals),
+                None => recognized_by_either(text, b"Signals", b"SG", Token::Signals),
             },
         },
-        b'T' => told_by_either(text, b"Transaction", b"T", Token::Transaction),
+        b'T' => recognized_by_either(text, b"Transaction", b"T", Token::Transaction),
         _ => None,
     }
 }

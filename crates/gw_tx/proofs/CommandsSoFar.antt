@@ -15,10 +15,10 @@ use Rattle.gw_cmd.specs.Keys.{command_keys}
 use Rattle.gw_cmd.specs.Suits.{IsUnused}
 use Rattle.gw_cmd.proofs.Parted.{StaysPart}
 use Rattle.gw_reserve.specs.Owned.{AreFreeSlots, first_owned, later_owned, paired_commands}
-use Rattle.gw_tx.specs.declared.told.Progress.{Progress}
+use Rattle.gw_tx.specs.declared.limited_text.Progress.{Progress}
 use Rattle.gw_tx.specs.Footprints.{list_keys, Covers}
 use Rattle.gw_tx.specs.Properties.{ArePlain}
-use Rattle.gw_tx.specs.Told.{progress}
+use Rattle.gw_tx.specs.LimitedText.{progress}
 use Rattle.gw_tx.specs.Transactions.{attempt, commands}
 use Rattle.gw_tx.proofs.Facts.{IsHeld, commands_keep_part}
 use Rattle.gw_tx.proofs.FreeSlots.{AnySlot, free_slot}

@@ -1,4 +1,4 @@
--- Under * no Add of $ is executed out, so it does not matter which slot is owned there.
+-- Under * no Add of $ is executed, so it does not matter which slot is owned there.
 use Rattle.std.proofs.Common.{◌≡◌, ℕ, Bool, true, false, Option, None, Some, refl, sym, ap, ◌∙◌}
 use Rattle.std.specs.Prelude.{if◌then◌else◌, not}
 use Rattle.gw_base.specs.declared.code.Code.{Code}
@@ -12,7 +12,7 @@ use Rattle.gw_desc.specs.Checks.{check_code}
 use Rattle.gw_msg.specs.declared.message.Command.{Command}
 use Rattle.gw_table.specs.Maps.{Maps, Outcome}
 use Rattle.gw_refusal.specs.declared.at.At.TheVariants.{Each}
-use Rattle.gw_refusal.specs.Asked.{is_unsupported, is_wildcard}
+use Rattle.gw_refusal.specs.Requested.{is_unsupported, is_wildcard}
 use Rattle.gw_refusal.specs.Places.{made}
 use Rattle.gw_refusal.specs.Forms.{is_left_out, is_misplaced, refusal_by_form}
 use Rattle.gw_cmd.specs.declared.outcome.CmdOutcome.{CmdOutcome}

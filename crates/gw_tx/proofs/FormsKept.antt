@@ -38,12 +38,12 @@ use Rattle.gw_table.specs.Folds.{none_from, attempts_behind, in_order}
 use Rattle.gw_table.specs.Maps.{Maps, Outcome, ctx, numbers, context_of}
 use Rattle.gw_refusal.specs.declared.at.At.{At}
 use Rattle.gw_refusal.specs.declared.at.At.TheVariants.{Null, Live, Unmade, Each}
-use Rattle.gw_cmd.specs.KeptForms.{AreKept, IsAsked, IsSlot}
+use Rattle.gw_cmd.specs.KeptForms.{AreKept, IsRequested, IsSlot}
 use Rattle.gw_cmd.proofs.FormsKept.{command_kept, put_ctx_kept}
 use Rattle.gw_cmd.specs.Commands.{command}
-use Rattle.gw_tx.specs.KeptForms.{HasForms, IsAskedProperty, AreAsked, IsAskedRequest, AreSlots}
+use Rattle.gw_tx.specs.KeptForms.{HasForms, IsRequestedProperty, AreRequested, IsReadRequest, AreSlots}
 use Rattle.gw_reserve.specs.Owned.{OwnedAction, first_owned, later_owned, is_adding, with_slots, slots_behind, owning, with_owned}
-use Rattle.gw_tx.specs.Properties.{name_of, linked_names, is_nothing, refusal_of_properties, refusal_of_links, link_of, linked_if, linked_by, with_property_if, set_property, set_properties, reply_items, link_parts, emergency_parts, item_parts, at_least_priority, context_parts_if}
+use Rattle.gw_tx.specs.Properties.{name_of, linked_names, is_nothing, refusal_of_properties, refusal_of_links, link_of, linked_if, linked_by, with_property_if, set_property, set_properties, reply_items, link_parts, emergency_parts, item_parts, minimum_priority, context_parts_if}
 use Rattle.gw_tx.proofs.SetProperties.{members-if}
 use Rattle.gw_tx.specs.Transactions.{set_when_made, attempt, commands, action_reply, refused_action, unless_refused, carried_action, in_context, in_each, in_all, action_for_each, action_in, action_for, action_on, action, paired_transaction, transaction}
 
@@ -73,7 +73,7 @@ module _ {X S A : Type 0} (step : S → X → Maps → Outcome (Attempts S A)) (
 
 -- a command with its slot
 abbrev IsGoodPair : Option ℕ × Command → Type 0
-IsGoodPair p = IsSlot p.0 × IsAsked p.1
+IsGoodPair p = IsSlot p.0 × IsRequested p.1
 
 first_slot : (slots : List (Option ℕ)) → All IsSlot slots → IsSlot (first_owned slots)
 first_slot [] h = tt
@@ -91,27 +91,27 @@ slots_if : (b : Bool) (slots : List (Option ℕ)) → All IsSlot slots → All I
 slots_if true slots h = later_slots slots h
 slots_if false slots h = h
 
-pairs_kept : (slots : List (Option ℕ)) (cs : List Command) → All IsSlot slots → All IsAsked cs → All IsGoodPair (with_slots slots cs)
+pairs_kept : (slots : List (Option ℕ)) (cs : List Command) → All IsSlot slots → All IsRequested cs → All IsGoodPair (with_slots slots cs)
 pairs_kept slots [] h k = All-nil IsGoodPair
 pairs_kept slots (c ∷ cs) h k =
     let more : List (Option ℕ) = cond (is_adding c) (later_owned slots) slots in
-    All-cons IsGoodPair (cond (is_adding c) (first_owned slots) None, c) (with_slots more cs) (slot_if (is_adding c) slots h, All-head IsAsked c cs k)
-    (pairs_kept more cs (slots_if (is_adding c) slots h) (All-tail IsAsked c cs k))
+    All-cons IsGoodPair (cond (is_adding c) (first_owned slots) None, c) (with_slots more cs) (slot_if (is_adding c) slots h, All-head IsRequested c cs k)
+    (pairs_kept more cs (slots_if (is_adding c) slots h) (All-tail IsRequested c cs k))
 
 behind_kept : (slots : List (Option ℕ)) (cs : List Command) → All IsSlot slots → All IsSlot (slots_behind slots cs)
 behind_kept slots [] h = h
 behind_kept slots (c ∷ cs) h = behind_kept (cond (is_adding c) (later_owned slots) slots) cs (slots_if (is_adding c) slots h)
 
 abbrev IsGoodAction : OwnedAction → Type 0
-IsGoodAction a = All IsAskedProperty a.sent.props × All IsGoodPair a.commands
+IsGoodAction a = All IsRequestedProperty a.sent.props × All IsGoodPair a.commands
 
-owned_kept : (ns : List (Option CtxNum)) (slots : List (Option ℕ)) (more_actions : List Action) → All IsSlot slots → All AreAsked more_actions → All IsGoodAction (with_owned ns slots more_actions)
+owned_kept : (ns : List (Option CtxNum)) (slots : List (Option ℕ)) (more_actions : List Action) → All IsSlot slots → All AreRequested more_actions → All IsGoodAction (with_owned ns slots more_actions)
 owned_kept ns slots [] h k = All-nil IsGoodAction
 owned_kept ns slots (a ∷ rest) h k =
     let more : List (Option CtxNum) = cond (is_choose a.ctx) (later_owned ns) ns in
-    let first = All-head AreAsked a rest k in
+    let first = All-head AreRequested a rest k in
     All-cons IsGoodAction (owning ns slots a) (with_owned more (slots_behind slots a.commands) rest) (first.props, pairs_kept slots a.commands h first.commands)
-    (owned_kept more (slots_behind slots a.commands) rest (behind_kept slots a.commands h) (All-tail AreAsked a rest k))
+    (owned_kept more (slots_behind slots a.commands) rest (behind_kept slots a.commands h) (All-tail AreRequested a rest k))
 
 -- ---- what is asked of contexts
 
@@ -142,21 +142,21 @@ linked_named (t ∷ ts) c f h =
     one form None (Some b) d e = h
     one form None None d e = h
 
-property_named : (p : ContextProp) (o : Option ContextRecord) → IsAskedProperty p → All HasNames (context_of o).links → All HasNames (context_of (with_property_if p o)).links
+property_named : (p : ContextProp) (o : Option ContextRecord) → IsRequestedProperty p → All HasNames (context_of o).links → All HasNames (context_of (with_property_if p o)).links
 property_named p None f h = h
 property_named (Priority q) (Some c) f h = h
 property_named Emergency (Some c) f h = h
 property_named (Topology ts) (Some c) f h = linked_named ts c f h
 property_named (ContextAudit items) (Some c) f h = h
 
-set_kept : (n : CtxNum) (ps : List ContextProp) (m : Maps) → All IsAskedProperty ps → AreKept m → AreKept (set_properties n ps m)
+set_kept : (n : CtxNum) (ps : List ContextProp) (m : Maps) → All IsRequestedProperty ps → AreKept m → AreKept (set_properties n ps m)
 set_kept n [] m f k = k
 set_kept n (p ∷ ps) m f k =
     let o : Option ContextRecord = with_property_if p (ctx m n) in
-    set_kept n ps (set_property n p m) (All-tail IsAskedProperty p ps f)
-    (put_ctx_kept n o m (subst (All IsName) (sym (members-if p (ctx m n))) (k.members n)) (property_named p (ctx m n) (All-head IsAskedProperty p ps f) (k.links n)) k)
+    set_kept n ps (set_property n p m) (All-tail IsRequestedProperty p ps f)
+    (put_ctx_kept n o m (subst (All IsName) (sym (members-if p (ctx m n))) (k.members n)) (property_named p (ctx m n) (All-head IsRequestedProperty p ps f) (k.links n)) k)
 
-made_kept : (made : Bool) (at : At) (late : List ContextProp) (m : Maps) → All IsAskedProperty late → AreKept m → AreKept (set_when_made made at late m)
+made_kept : (made : Bool) (at : At) (late : List ContextProp) (m : Maps) → All IsRequestedProperty late → AreKept m → AreKept (set_when_made made at late m)
 made_kept true (Unmade n) late m f k = set_kept n late m f k
 made_kept true Null late m f k = k
 made_kept true (Live n) late m f k = k
@@ -185,7 +185,7 @@ items_parts : (c : ContextRecord) (items : List ContextItem) → All HasNames c.
 items_parts c [] h = All-nil IsKeptPart
 items_parts c (i ∷ is) h = All-append IsKeptPart (item_parts c i) (flat_map (item_parts c) is) (item_part c i h) (items_parts c is h)
 
-some_part : (c : ContextRecord) (b : Bool) (parts : List ContextPart) → All IsKeptPart parts → All IsKeptPart (at_least_priority c b parts)
+some_part : (c : ContextRecord) (b : Bool) (parts : List ContextPart) → All IsKeptPart parts → All IsKeptPart (minimum_priority c b parts)
 some_part c true [] h = priority_part c.priority
 some_part c true (p ∷ ps) h = h
 some_part c false parts h = h
@@ -213,17 +213,17 @@ carried_kept : (parts : List ContextPart) (o : Outcome (Attempts At CommandReply
 carried_kept parts o f k h = (k, one_told (action_reply parts o.answer) (record { parts = f; commands = h }))
 
 module _ (rules : Rules) (address : IsAddress rules.media) where
-  attempt_kept : (late : List ContextProp) → All IsAskedProperty late → (at : At) (p : Option ℕ × Command) (m : Maps) → IsGoodPair p → AreKept m → AreKept (attempt rules late at p m).maps × All IsKeptCommand (attempt rules late at p m).answer.answers
+  attempt_kept : (late : List ContextProp) → All IsRequestedProperty late → (at : At) (p : Option ℕ × Command) (m : Maps) → IsGoodPair p → AreKept m → AreKept (attempt rules late at p m).maps × All IsKeptCommand (attempt rules late at p m).answer.answers
   attempt_kept late f at p m good k =
       let done = command rules at p.0 p.1 m in
       let h = command_kept rules address at p.0 p.1 m good.0 good.1 k in
       (made_kept done.answer.made at late done.maps f h.maps, h.replies)
 
-  commands_kept : (late : List ContextProp) → All IsAskedProperty late → (at : At) (cs : List (Option ℕ × Command)) (m : Maps) → All IsGoodPair cs → AreKept m → AreKept (commands rules late at cs m).maps × All IsKeptCommand (commands rules late at cs m).answer.answers
+  commands_kept : (late : List ContextProp) → All IsRequestedProperty late → (at : At) (cs : List (Option ℕ × Command)) (m : Maps) → All IsGoodPair cs → AreKept m → AreKept (commands rules late at cs m).maps × All IsKeptCommand (commands rules late at cs m).answer.answers
   commands_kept late f at cs m good k = order_kept (attempt rules late) IsGoodPair IsKeptCommand (attempt_kept late f) at cs m good k
 
-  never : All IsAskedProperty []
-  never = All-nil IsAskedProperty
+  never : All IsRequestedProperty []
+  never = All-nil IsRequestedProperty
 
   context_kept : (a : OwnedAction) → IsGoodAction a → (at : At) (n : CtxNum) (m : Maps) → AreKept m → Tells (in_context rules a at n m)
   context_kept a good at n m k =
@@ -264,11 +264,11 @@ module _ (rules : Rules) (address : IsAddress rules.media) where
   action_kept : (u : Unit {0}) (a : OwnedAction) (m : Maps) → IsGoodAction a → AreKept m → Tells (action rules u a m)
   action_kept u a m good k = unless_kept (refusal_of_properties a.sent) a.sent.ctx m (action_on rules a m a.sent.ctx) k (on_kept a m a.sent.ctx good k)
 
-  pub transaction_kept : (r : Request) (ids : Ids) (m : Maps) → AreSlots ids → IsAskedRequest r → AreKept m → AreKept (transaction rules r ids m).maps × IsKeptTree (transaction rules r ids m).answer
+  pub transaction_kept : (r : Request) (ids : Ids) (m : Maps) → AreSlots ids → IsReadRequest r → AreKept m → AreKept (transaction rules r ids m).maps × IsKeptTree (transaction rules r ids m).answer
   unfolding transaction paired_transaction
-  transaction_kept r ids m slots asked k =
-      let h = order_kept (action rules) IsGoodAction IsKeptAction action_kept tt (with_owned ids.contexts ids.slots r.actions) m (owned_kept ids.contexts ids.slots r.actions slots asked.actions) k in
-      (h.0, (asked.number, h.1))
+  transaction_kept r ids m slots requested k =
+      let h = order_kept (action rules) IsGoodAction IsKeptAction action_kept tt (with_owned ids.contexts ids.slots r.actions) m (owned_kept ids.contexts ids.slots r.actions slots requested.actions) k in
+      (h.0, (requested.number, h.1))
 
 -- the reply has the number of the request
 pub transaction_id : (rules : Rules) (mid : List ℕ) (r : Request) (ids : Ids) (m : Maps) → IsReplyMessage mid (transaction rules r ids m).answer.id.0 (reply_text mid (transaction rules r ids m).answer) → IsReplyMessage mid r.id.0 (reply_text mid (transaction rules r ids m).answer)

@@ -22,7 +22,7 @@ use Rattle.gw_table.specs.Parts.{PartKeys, IsPart, holds, Holds}
 use Rattle.gw_table.proofs.Growth.{Grows}
 use Rattle.gw_refusal.specs.declared.at.At.{At}
 use Rattle.gw_refusal.specs.declared.at.At.TheVariants.{Null, Live, Unmade, Each}
-use Rattle.gw_refusal.specs.Asked.{is_add}
+use Rattle.gw_refusal.specs.Requested.{is_add}
 use Rattle.gw_refusal.specs.Places.{made}
 use Rattle.gw_cmd.specs.Keys.{every_key, is_for_all, keys_if, action_keys, place_key, name_keys, slot_key, member_keys, term_keys, command_keys}
 use Rattle.gw_cmd.proofs.Locality.{entered_name}
@@ -167,11 +167,11 @@ module _ (keys : PartKeys) where
     commands_stay ps sent owned h =
         let all : List Key = keys_if (is_for_each sent) (every_key s) in
         let one : List Key = place_key (one_context sent owned) in
-        let asked : Maps → List Key = λ n. flat_map (keys_in_action sent owned n) ps in
-        let front : Holds keys (all ++ one) = left_held (all ++ one) (asked s) h in
-        both_held (keys_if (is_for_each sent) (every_key m) ++ one) (asked m)
+        let requested : Maps → List Key = λ n. flat_map (keys_in_action sent owned n) ps in
+        let front : Holds keys (all ++ one) = left_held (all ++ one) (requested s) h in
+        both_held (keys_if (is_for_each sent) (every_key m) ++ one) (requested m)
         (both_held (keys_if (is_for_each sent) (every_key m)) one (every_stays (is_for_each sent) (left_held all one front)) (right_held all one front))
-        (each_held (keys_in_action sent owned s) (keys_in_action sent owned m) (asked_stays sent owned) ps (right_held (all ++ one) (asked s) h))
+        (each_held (keys_in_action sent owned s) (keys_in_action sent owned m) (asked_stays sent owned) ps (right_held (all ++ one) (requested s) h))
 
     pub action_stays : (a : OwnedAction) → Holds keys (action_footprint a s) → Holds keys (action_footprint a m)
     action_stays a h =
@@ -208,22 +208,22 @@ module _ (keys : PartKeys) where
 
     pub in_live : (ps : List (Option ℕ × Command)) (sent : CtxRef) (owned : Option CtxNum) (n : CtxNum) → sent ≡ ref.Num n → Holds keys (footprint_in m ps sent owned) → Holds keys (list_keys (Live n) ps m)
     in_live ps sent owned n e h =
-        let asked : List Key = flat_map (keys_in_action (ref.Num n) owned m) ps in
-        let g : Holds keys ((Ctx n ∷ []) ++ asked) = subst (λ (x : CtxRef). Holds keys (footprint_in m ps x owned)) e h in
-        each_held (keys_in_action (ref.Num n) owned m) (λ q. command_keys (Live n) q.0 q.1 m) (in_context (Live n) (ref.Num n) owned (λ x. x) (λ c x. x) (left_held (Ctx n ∷ []) asked g)) ps (right_held (Ctx n ∷ []) asked g)
+        let requested : List Key = flat_map (keys_in_action (ref.Num n) owned m) ps in
+        let g : Holds keys ((Ctx n ∷ []) ++ requested) = subst (λ (x : CtxRef). Holds keys (footprint_in m ps x owned)) e h in
+        each_held (keys_in_action (ref.Num n) owned m) (λ q. command_keys (Live n) q.0 q.1 m) (in_context (Live n) (ref.Num n) owned (λ x. x) (λ c x. x) (left_held (Ctx n ∷ []) requested g)) ps (right_held (Ctx n ∷ []) requested g)
 
     pub in_unmade : (ps : List (Option ℕ × Command)) (sent : CtxRef) (owned : Option CtxNum) (n : CtxNum) → sent ≡ ref.Choose → owned ≡ Some n → Holds keys (footprint_in m ps sent owned) → Holds keys (list_keys (Unmade n) ps m)
     in_unmade ps sent owned n e f h =
-        let asked : List Key = flat_map (keys_in_action ref.Choose (Some n) m) ps in
-        let g : Holds keys ((Ctx n ∷ []) ++ asked) = subst (λ (o : Option CtxNum). Holds keys (footprint_in m ps ref.Choose o)) f (subst (λ (x : CtxRef). Holds keys (footprint_in m ps x owned)) e h) in
-        each_held (keys_in_action ref.Choose (Some n) m) (λ q. command_keys (Unmade n) q.0 q.1 m) (in_context (Unmade n) ref.Choose (Some n) (λ x. x) (λ c x. x) (left_held (Ctx n ∷ []) asked g)) ps (right_held (Ctx n ∷ []) asked g)
+        let requested : List Key = flat_map (keys_in_action ref.Choose (Some n) m) ps in
+        let g : Holds keys ((Ctx n ∷ []) ++ requested) = subst (λ (o : Option CtxNum). Holds keys (footprint_in m ps ref.Choose o)) f (subst (λ (x : CtxRef). Holds keys (footprint_in m ps x owned)) e h) in
+        each_held (keys_in_action ref.Choose (Some n) m) (λ q. command_keys (Unmade n) q.0 q.1 m) (in_context (Unmade n) ref.Choose (Some n) (λ x. x) (λ c x. x) (left_held (Ctx n ∷ []) requested g)) ps (right_held (Ctx n ∷ []) requested g)
 
     pub in_each : (ps : List (Option ℕ × Command)) (sent : CtxRef) (owned : Option CtxNum) (n : CtxNum) → sent ≡ ref.All → Holds keys (footprint_in m ps sent owned) → Holds keys (list_keys (Each n) ps m)
     in_each ps sent owned n e h =
-        let asked : List Key = flat_map (keys_in_action ref.All owned m) ps in
-        let g : Holds keys ((every_key m ++ []) ++ asked) = subst (λ (x : CtxRef). Holds keys (footprint_in m ps x owned)) e h in
-        let all : Holds keys (every_key m) = left_held (every_key m) [] (left_held (every_key m ++ []) asked g) in
-        each_held (keys_in_action ref.All owned m) (λ q. command_keys (Each n) q.0 q.1 m) (in_context (Each n) ref.All owned (λ x. none_held) (λ c x. all) none_held) ps (right_held (every_key m ++ []) asked g)
+        let requested : List Key = flat_map (keys_in_action ref.All owned m) ps in
+        let g : Holds keys ((every_key m ++ []) ++ requested) = subst (λ (x : CtxRef). Holds keys (footprint_in m ps x owned)) e h in
+        let all : Holds keys (every_key m) = left_held (every_key m) [] (left_held (every_key m ++ []) requested g) in
+        each_held (keys_in_action ref.All owned m) (λ q. command_keys (Each n) q.0 q.1 m) (in_context (Each n) ref.All owned (λ x. none_held) (λ c x. all) none_held) ps (right_held (every_key m ++ []) requested g)
 
 -- ---- the context of an action stays its own
 

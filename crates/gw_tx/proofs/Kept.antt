@@ -193,7 +193,7 @@ module _ {Ok : At → Option ℕ → Command → Type 0} {S : ℕ → Type 0} {Q
       by (Some code) e = behind slots (length a.commands) m w
       by None e = kept_on a number slots m a.ctx refl (allowed a e) o w
 
-  pub kept_actions : (held : List (Option CtxNum)) (slots : List (Option ℕ)) (asked : List Action) (m : Maps) → AllOks Ok (paired_actions held slots asked) → With S Q slots m → Q (actions rules (paired_actions held slots asked) m).maps
+  pub kept_actions : (held : List (Option CtxNum)) (slots : List (Option ℕ)) (requested : List Action) (m : Maps) → AllOks Ok (paired_actions held slots requested) → With S Q slots m → Q (actions rules (paired_actions held slots requested) m).maps
   unfolding in_order
   kept_actions held slots [] m o w = w.kept
   kept_actions held slots (a ∷ more) m o w =

@@ -1,4 +1,4 @@
-pub mod Asked
+pub mod Requested
 pub mod CommandsSoFar
 pub mod EachContext
 pub mod Entries

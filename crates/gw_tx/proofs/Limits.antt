@@ -12,9 +12,9 @@ use Rattle.gw_reply.proofs.Writers.{not_le}
 use Rattle.gw_reply.specs.Lists.{comma_separated, in_braces, later}
 use Rattle.gw_reply.specs.declared.reply.ActionReply.{ActionReply}
 use Rattle.gw_reply.specs.Replies.{action_reply_text, transaction_reply_text}
-use Rattle.gw_tx.specs.declared.told.Told.{Told}
-use Rattle.gw_tx.specs.declared.told.Told.TheVariants.{Whole, TooLong}
-use Rattle.gw_tx.specs.Told.{told_of, within, IsLimited}
+use Rattle.gw_tx.specs.declared.limited_text.LimitedText.{LimitedText}
+use Rattle.gw_tx.specs.declared.limited_text.LimitedText.TheVariants.{Whole, TooLong}
+use Rattle.gw_tx.specs.LimitedText.{limited_text_of, within, IsLimited}
 
 -- the text of a reply is eight bytes, its number, and its actions
 length-reply : (id : TxId) (replies : List ActionReply) → length (transaction_reply_text (record { id = id; result = Ok replies })) ≡ length (decimal id.0) + 8 + length (comma_separated (map action_reply_text replies))
@@ -42,21 +42,21 @@ fits_frame all frame inner left limit true sum room e = let le = leb-true inner 
 fits_frame all frame inner left limit false sum room e = let more = leb-false inner left e in not_le all limit (omega (arith, sum, room, more))
 
 pub framed : (id : TxId) (replies : List ActionReply) (left limit : ℕ) → left + (length (decimal id.0) + 8) ≡ limit
-    → told_of (written_behind action_reply_text (writer.Within [] (left + 1)) replies) ≡ within limit (record { id = id; result = Ok replies })
+    → limited_text_of (written_behind action_reply_text (writer.Within [] (left + 1)) replies) ≡ within limit (record { id = id; result = Ok replies })
 framed id replies left limit room = by (nat_le (length (later action_reply_text replies)) (left + 1)) refl
   where
     fits : (b : Bool) → nat_le (length (later action_reply_text replies)) (left + 1) ≡ b → nat_le (length (transaction_reply_text (record { id = id; result = Ok replies }))) limit ≡ b
     fits b e = fits_frame (length (transaction_reply_text (record { id = id; result = Ok replies }))) (length (decimal id.0) + 8) (length (comma_separated (map action_reply_text replies))) left limit b (length-reply id replies) room (fits_both replies left b e)
 
-    by : (b : Bool) → nat_le (length (later action_reply_text replies)) (left + 1) ≡ b → told_of (if b then writer.Within ([] ++ later action_reply_text replies) (left + 1 - length (later action_reply_text replies)) else writer.TooLong) ≡ within limit (record { id = id; result = Ok replies })
-    by true e = sym (ap (λ (b : Bool). let t : Told = if b then Whole (later action_reply_text replies) else TooLong in t) (fits true e))
-    by false e = sym (ap (λ (b : Bool). let t : Told = if b then Whole (later action_reply_text replies) else TooLong in t) (fits false e))
+    by : (b : Bool) → nat_le (length (later action_reply_text replies)) (left + 1) ≡ b → limited_text_of (if b then writer.Within ([] ++ later action_reply_text replies) (left + 1 - length (later action_reply_text replies)) else writer.TooLong) ≡ within limit (record { id = id; result = Ok replies })
+    by true e = sym (ap (λ (b : Bool). let t : LimitedText = if b then Whole (later action_reply_text replies) else TooLong in t) (fits true e))
+    by false e = sym (ap (λ (b : Bool). let t : LimitedText = if b then Whole (later action_reply_text replies) else TooLong in t) (fits false e))
 
 -- a limit below the frame
 pub no_frame : (id : TxId) (replies : List ActionReply) (limit : ℕ) → limit < length (decimal id.0) + 8 → TooLong ≡ within limit (record { id = id; result = Ok replies })
 no_frame id replies limit less =
     let all = length-reply id replies in
-    sym (ap (λ (b : Bool). let t : Told = if b then Whole (later action_reply_text replies) else TooLong in t) (not_le (length (transaction_reply_text (record { id = id; result = Ok replies }))) limit (omega (arith, all, less))))
+    sym (ap (λ (b : Bool). let t : LimitedText = if b then Whole (later action_reply_text replies) else TooLong in t) (not_le (length (transaction_reply_text (record { id = id; result = Ok replies }))) limit (omega (arith, all, less))))
 
 -- a limit stays
 pub still_limited : (w : ReplyWriter ActionReply) (more : List ActionReply) → IsLimited w → IsLimited (written_behind action_reply_text w more)

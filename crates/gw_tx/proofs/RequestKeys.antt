@@ -16,11 +16,11 @@ use Rattle.gw_table.specs.Maps.{Maps, term, ctx, place_of, members_of}
 use Rattle.gw_table.specs.Parts.{PartKeys, Only, Holds}
 use Rattle.gw_refusal.specs.declared.at.At.{At}
 use Rattle.gw_refusal.specs.declared.at.At.TheVariants.{Null, Live, Unmade, Each}
-use Rattle.gw_refusal.specs.Asked.{is_add}
+use Rattle.gw_refusal.specs.Requested.{is_add}
 use Rattle.gw_cmd.specs.Keys.{every_key, is_for_all, keys_if, place_key, name_keys, slot_key, action_keys, member_keys, term_keys, command_keys}
 use Rattle.gw_cmd.proofs.Ready.{among_all, among_action, among_term}
 use Rattle.gw_reserve.specs.Owned.{OwnedAction}
-use Rattle.gw_tx.specs.Footprints.{is_for_each, one_context, stands_for_all, keys_of_members, named_keys, keys_in_action, keys_of_links, footprint_of, is_meant_for_all, list_keys, sent_for, owned_for, alone}
+use Rattle.gw_tx.specs.Footprints.{is_for_each, one_context, stands_for_all, keys_of_members, named_keys, keys_in_action, keys_of_links, footprint_of, is_whole_table, list_keys, sent_for, owned_for, alone}
 use Rattle.gw_tx.specs.Properties.{linked_names}
 use Rattle.gw_tx.proofs.HeldKeys.{footprint_in, both_held, left_held, none_held, in_null, in_live, in_unmade, in_each}
 
@@ -144,17 +144,17 @@ no_links m (t ∷ ts) =
     ∙ ap (λ (b : Bool). b || has (flat_map (λ t. name_keys t m) ts) Whole) (no_place (place_of (term m t)))
     ∙ no_links m ts
 
-pub whole_key : (m : Maps) (actions : List OwnedAction) → has (footprint_of actions m) Whole ≡ list_any is_meant_for_all actions
+pub whole_key : (m : Maps) (actions : List OwnedAction) → has (footprint_of actions m) Whole ≡ list_any is_whole_table actions
 whole_key m [] = refl
 whole_key m (a ∷ more) =
     let every : List Key = keys_if (is_for_each a.sent.ctx) (every_key m) in
     let one : List Key = place_key (one_context a.sent.ctx a.number) in
-    let asked : List Key = flat_map (keys_in_action a.sent.ctx a.number m) a.commands in
+    let requested : List Key = flat_map (keys_in_action a.sent.ctx a.number m) a.commands in
     let links : List Key = keys_of_links a m in
-    has-append (every ++ one ++ asked ++ links) (footprint_of more m)
-    ∙ ap (λ (b : Bool). b || has (footprint_of more m) Whole) (has-append (every ++ one ++ asked) links
-    ∙ or_false_is (has (every ++ one ++ asked) Whole) (has links Whole) (no_links m (linked_names a.sent.props))
-    ∙ has-append (every ++ one) asked
-    ∙ ap (λ (b : Bool). b || has asked Whole) (has-append every one ∙ or_false_is (has every Whole) (has one Whole) (no_place (one_context a.sent.ctx a.number)) ∙ in_every (is_for_each a.sent.ctx) m)
+    has-append (every ++ one ++ requested ++ links) (footprint_of more m)
+    ∙ ap (λ (b : Bool). b || has (footprint_of more m) Whole) (has-append (every ++ one ++ requested) links
+    ∙ or_false_is (has (every ++ one ++ requested) Whole) (has links Whole) (no_links m (linked_names a.sent.props))
+    ∙ has-append (every ++ one) requested
+    ∙ ap (λ (b : Bool). b || has requested Whole) (has-append every one ∙ or_false_is (has every Whole) (has one Whole) (no_place (one_context a.sent.ctx a.number)) ∙ in_every (is_for_each a.sent.ctx) m)
     ∙ ap (λ (b : Bool). is_for_each a.sent.ctx || b) (in_commands a.sent.ctx a.number m a.commands))
-    ∙ ap (λ (b : Bool). is_meant_for_all a || b) (whole_key m more)
+    ∙ ap (λ (b : Bool). is_whole_table a || b) (whole_key m more)

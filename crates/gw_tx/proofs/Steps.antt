@@ -7,8 +7,8 @@ use Rattle.gw_table.specs.declared.attempts.Attempts.{Attempts}
 use Rattle.gw_table.specs.Folds.{attempts_behind, in_order}
 use Rattle.gw_table.specs.Maps.{Maps, Outcome}
 use Rattle.gw_table.proofs.Folding.{ended, goes_on, stops, ends}
-use Rattle.gw_tx.specs.declared.told.Progress.{Progress}
-use Rattle.gw_tx.specs.Told.{progress}
+use Rattle.gw_tx.specs.declared.limited_text.Progress.{Progress}
+use Rattle.gw_tx.specs.LimitedText.{progress}
 
 -- what is written is that of some answers, which, and then those of the items that are left, are all
 pub record IsSoFar {X S A : Type 0} (step : S → X → Maps → Outcome (Attempts S A)) (text : A → List ℕ) (first : ReplyWriter A) (all : Outcome (Attempts S A)) (w : ReplyWriter A) (s : S) (left : List X) (m : Maps) : Type 0 where

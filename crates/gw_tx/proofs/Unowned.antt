@@ -152,7 +152,7 @@ module _ (n : CtxNum) where
   made_none [] at h = tt
   made_none (p ∷ ps) at h = (h p.0 p.1, made_none ps at h)
 
-  makes_others : (numbers : List (Option CtxNum)) (slots : List (Option ℕ)) (asked : List Action) → All (λ k. nat_eq n.0 k.0 ≡ false) (owned numbers) → AllOks (MakesOther n) (with_owned numbers slots asked)
+  makes_others : (numbers : List (Option CtxNum)) (slots : List (Option ℕ)) (requested : List Action) → All (λ k. nat_eq n.0 k.0 ≡ false) (owned numbers) → AllOks (MakesOther n) (with_owned numbers slots requested)
   makes_others numbers slots [] a = tt
   makes_others numbers slots (x ∷ more) a = (by x.ctx, makes_others (if is_choose x.ctx then later_owned numbers else numbers) (slots_behind slots x.commands) more (left (is_choose x.ctx)))
     where

@@ -15,7 +15,7 @@ use Rattle.gw_table.specs.Parts.{Parted, IsPart, Holds}
 use Rattle.gw_table.specs.WellFormed.{IsSound}
 use Rattle.gw_refusal.specs.declared.at.At.{At}
 use Rattle.gw_refusal.specs.declared.at.At.TheVariants.{Null, Live, Unmade, Each}
-use Rattle.gw_refusal.specs.Asked.{is_add, is_root, is_service_change, is_wildcard}
+use Rattle.gw_refusal.specs.Requested.{is_add, is_root, is_service_change, is_wildcard}
 use Rattle.gw_cmd.specs.Keys.{every_key, keys_if, place_key, name_keys, slot_key, command_keys}
 use Rattle.gw_reserve.specs.Owned.{OwnedAction}
 use Rattle.gw_tx.specs.Properties.{linked_names}
@@ -83,8 +83,8 @@ abbrev pub footprint_of : List OwnedAction → Maps → List Key
 footprint_of actions m = flat_map (λ a. action_footprint a m) actions
 
 -- an action for each context, or one with a command that stands for all
-abbrev pub is_meant_for_all : OwnedAction → Bool
-is_meant_for_all a = is_for_each a.sent.ctx || list_any (λ p. stands_for_all a.sent.ctx p.1) a.commands
+abbrev pub is_whole_table : OwnedAction → Bool
+is_whole_table a = is_for_each a.sent.ctx || list_any (λ p. stands_for_all a.sent.ctx p.1) a.commands
 
 -- the keys of commands that are executed in one context
 abbrev pub list_keys : At → List (Option ℕ × Command) → Maps → List Key

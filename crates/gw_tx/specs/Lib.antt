@@ -1,6 +1,6 @@
 pub mod Footprints
 pub mod Properties
-pub mod Told
+pub mod LimitedText
 pub mod Transactions
 pub use Rattle.gw_reserve.specs.Owned
 pub use Rattle.gw_table.specs.Folds

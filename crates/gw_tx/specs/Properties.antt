@@ -12,7 +12,7 @@ use Rattle.gw_base.specs.declared.context_words.Flow.{Flow}
 use Rattle.gw_base.specs.declared.context_words.Link.{Link}
 use Rattle.gw_base.specs.declared.term_ref.TermRef.{TermRef}
 use Rattle.gw_base.specs.declared.term_ref.TermRef.TheVariants as term_ref
-use Rattle.gw_ctx.specs.Contexts.{ContextRecord, prioritized, marked, linked}
+use Rattle.gw_ctx.specs.Contexts.{ContextRecord, prioritized, with_emergency, linked}
 use Rattle.gw_ctx.specs.Fitting.{priority_max}
 use Rattle.gw_msg.specs.declared.message.Action.{Action}
 use Rattle.gw_msg.specs.declared.message.Triple.{Triple}
@@ -228,7 +228,7 @@ linked_by (t ∷ ts) c = linked_by ts (linked_if (link_of (name_of t.a) (name_of
 
 abbrev pub with_property : ContextProp → ContextRecord → ContextRecord
 with_property (Priority p) c = prioritized p c
-with_property Emergency c = marked true c
+with_property Emergency c = with_emergency true c
 with_property (Topology triples) c = linked_by triples c
 with_property (ContextAudit items) c = c
 
@@ -269,13 +269,13 @@ item_parts c item.Emergency = emergency_parts c.emergency
 item_parts c item.Topology = link_parts c.links
 
 -- in the reply to an action without commands something stands: the priority
-abbrev pub at_least_priority : ContextRecord → Bool → List ContextPart → List ContextPart
-at_least_priority c true [] = part.Priority c.priority ∷ []
-at_least_priority c true (p ∷ ps) = p ∷ ps
-at_least_priority c false parts = parts
+abbrev pub minimum_priority : ContextRecord → Bool → List ContextPart → List ContextPart
+minimum_priority c true [] = part.Priority c.priority ∷ []
+minimum_priority c true (p ∷ ps) = p ∷ ps
+minimum_priority c false parts = parts
 
 abbrev pub context_parts : Action → ContextRecord → List ContextPart
-context_parts a c = at_least_priority c (is_nothing a.commands) (flat_map (item_parts c) (reply_items a))
+context_parts a c = minimum_priority c (is_nothing a.commands) (flat_map (item_parts c) (reply_items a))
 
 abbrev pub context_parts_if : Action → Option ContextRecord → List ContextPart
 context_parts_if a None = []

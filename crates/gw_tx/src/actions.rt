@@ -11,16 +11,16 @@ ghost use Rattle.gw_table.specs.Maps.{ctx};
 ghost use Rattle.gw_table.specs.Parts.{holds};
 ghost use Rattle.gw_tx.specs.Footprints.{action_footprint, footprint_of, list_keys, Covers};
 ghost use Rattle.gw_tx.specs.Properties.{is_too_high, refusal_of_properties};
-ghost use Rattle.gw_tx.specs.Told.{owned_action, progress};
+ghost use Rattle.gw_tx.specs.LimitedText.{owned_action, progress};
 ghost use Rattle.gw_tx.specs.Transactions.{action_in as done_in, action_on as done_on, action as action_done, actions as all_actions};
 
 use crate::commands::commands_in;
 use crate::contexts::{action_for_each, in_context};
+use crate::limited_text::{Progress, inside};
 use crate::links::{linked_names, refusal_of_links};
 use crate::owned::{ActionTask, entries_behind, next_entry};
 use crate::properties::refusal_of_properties;
 use crate::replies::action_error;
-use crate::told::{Progress, inside};
 use gw_base::{Code, CtxNum, CtxRef, NoMemory, Rules};
 use gw_cmd::At;
 use gw_msg::Action;

@@ -11,13 +11,13 @@ ghost use Rattle.gw_reply.specs.declared.context_parts.ContextPart.{ContextPart 
 ghost use Rattle.gw_reserve.specs.Owned.{AreFreeSlots, paired_commands};
 ghost use Rattle.gw_tx.specs.Footprints.{list_keys, Covers};
 ghost use Rattle.gw_tx.specs.Properties.{ArePlain};
-ghost use Rattle.gw_tx.specs.Told.{progress};
+ghost use Rattle.gw_tx.specs.LimitedText.{progress};
 ghost use Rattle.gw_tx.specs.Transactions.{attempt, commands as all_commands, replied as action_replied};
 
+use crate::limited_text::{Progress, begun};
 use crate::owned::{ActionTask, next_entry};
 use crate::replies::replied;
 use crate::setting::set_when_made;
-use crate::told::{Progress, begun};
 use gw_base::NoMemory;
 use gw_cmd::{At, Prepared, command_written};
 use gw_msg::ContextProp;

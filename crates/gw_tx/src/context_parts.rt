@@ -6,10 +6,10 @@ ghost use Rattle.gw_reply.specs.ContextParts.{context_part_text};
 ghost use Rattle.gw_reply.specs.Writers.{inside, written_behind};
 ghost use Rattle.gw_table.specs.Maps.{ctx};
 ghost use Rattle.gw_tx.specs.Properties.{is_audit, is_nothing, items_of, kind_in, link_parts, item_parts, reply_items, context_parts, context_parts_if};
-ghost use Rattle.gw_tx.specs.Told.{is_unused, IsBegun};
+ghost use Rattle.gw_tx.specs.LimitedText.{is_unused, IsBegun};
 
+use crate::limited_text::inside;
 use crate::properties::has_audit;
-use crate::told::inside;
 use gw_base::{CtxNum, Items, Link, NoMemory};
 use gw_ctx::Context;
 use gw_msg::{Action, ContextItem, ContextProp};

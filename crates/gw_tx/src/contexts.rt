@@ -12,15 +12,15 @@ ghost use Rattle.gw_table.specs.Maps.{numbers};
 ghost use Rattle.gw_table.specs.Parts.{holds};
 ghost use Rattle.gw_tx.specs.Footprints.{list_keys, Covers};
 ghost use Rattle.gw_tx.specs.Properties.{is_too_high, ArePlain};
-ghost use Rattle.gw_tx.specs.Told.{owned_action, progress};
+ghost use Rattle.gw_tx.specs.LimitedText.{owned_action, progress};
 ghost use Rattle.gw_tx.specs.Transactions.{in_context as done_in_context, in_all, action_for_each};
 
 use crate::commands::{commands_in, commands_prepared};
 use crate::context_parts::context_parts_if;
+use crate::limited_text::{Progress, begun};
 use crate::owned::ActionTask;
 use crate::replies::{action_error, replied};
 use crate::setting::set_properties;
-use crate::told::{Progress, begun};
 use gw_base::{Code, CtxNum, CtxRef, NoMemory};
 use gw_cmd::{At, Prepared, all_prepared};
 use gw_reply::{ActionReply, ReplyWriter};

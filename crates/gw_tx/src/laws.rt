@@ -23,8 +23,8 @@ ghost use Rattle.gw_table.specs.Maps.{Maps, term, ctx};
 ghost use Rattle.gw_table.specs.Reserved.{slot_name};
 ghost use Rattle.gw_table.specs.Unused.{owned, AreUnused};
 ghost use Rattle.gw_table.specs.WellFormed.{AreWellFormed};
-ghost use Rattle.gw_tx.specs.Footprints.{footprint_of, is_meant_for_all, alone};
-ghost use Rattle.gw_tx.specs.KeptForms.{AreSlots, IsAskedRequest};
+ghost use Rattle.gw_tx.specs.Footprints.{footprint_of, is_whole_table, alone};
+ghost use Rattle.gw_tx.specs.KeptForms.{AreSlots, IsReadRequest};
 ghost use Rattle.gw_reserve.specs.Owned.{OwnedAction, AreFreeSlots};
 ghost use Rattle.gw_tx.specs.Transactions.{transaction};
 
@@ -49,7 +49,7 @@ pub fn what_others_own_stays_free()
 /// actions is for each context, or one of its commands for all terminations or for those of the null context.
 pub fn keys_of_requests()
     ensures command { (at : At) (slot : Option ℕ) (c : Command) (m : Maps) (k : Key) → has (footprint_of (alone at slot c ∷ []) m) k ≡ has (command_keys at slot c m) k }
-    ensures whole { (m : Maps) (actions : List OwnedAction) → has (footprint_of actions m) Whole ≡ list_any is_meant_for_all actions }
+    ensures whole { (m : Maps) (actions : List OwnedAction) → has (footprint_of actions m) Whole ≡ list_any is_whole_table actions }
 {}
 
 /// What this gateway sends can be read. A request of the grammar has TerminationIDs and descriptors of their forms;
@@ -57,8 +57,8 @@ pub fn keys_of_requests()
 /// reply is a message from this mId whose one item is the reply of that number, and is read as a message with one
 /// item.
 pub fn answers_can_be_read()
-    ensures asked { (r : Request) (text : List ℕ) → SpellsRequest r text → IsAskedRequest r }
-    ensures kept { (rules : Rules) (r : Request) (ids : Ids) (m : Maps) → IsAddress rules.media → AreSlots ids → IsAskedRequest r → AreKept m → AreKept (transaction rules r ids m).maps }
-    ensures message { (mid : List ℕ) (rules : Rules) (r : Request) (ids : Ids) (m : Maps) → IsMid mid → IsAddress rules.media → AreSlots ids → IsAskedRequest r → AreKept m → IsReplyMessage mid r.id.0 (reply_text mid (transaction rules r ids m).answer) }
-    ensures read { (mid : List ℕ) (rules : Rules) (r : Request) (ids : Ids) (m : Maps) → IsMid mid → IsAddress rules.media → AreSlots ids → IsAskedRequest r → AreKept m → message_of (reply_text mid (transaction rules r ids m).answer) ≡ Read (reply_message mid) }
+    ensures requested { (r : Request) (text : List ℕ) → SpellsRequest r text → IsReadRequest r }
+    ensures kept { (rules : Rules) (r : Request) (ids : Ids) (m : Maps) → IsAddress rules.media → AreSlots ids → IsReadRequest r → AreKept m → AreKept (transaction rules r ids m).maps }
+    ensures message { (mid : List ℕ) (rules : Rules) (r : Request) (ids : Ids) (m : Maps) → IsMid mid → IsAddress rules.media → AreSlots ids → IsReadRequest r → AreKept m → IsReplyMessage mid r.id.0 (reply_text mid (transaction rules r ids m).answer) }
+    ensures read { (mid : List ℕ) (rules : Rules) (r : Request) (ids : Ids) (m : Maps) → IsMid mid → IsAddress rules.media → AreSlots ids → IsReadRequest r → AreKept m → message_of (reply_text mid (transaction rules r ids m).answer) ≡ Read (reply_message mid) }
 {}

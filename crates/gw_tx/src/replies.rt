@@ -8,10 +8,10 @@ ghost use Rattle.gw_reply.specs.ContextParts.{context_part_text};
 ghost use Rattle.gw_reply.specs.Replies.{command_reply_text, action_reply_text};
 ghost use Rattle.gw_reply.specs.Writers.{inside, written_behind};
 ghost use Rattle.gw_table.specs.declared.attempts.Attempts.{Attempts};
-ghost use Rattle.gw_tx.specs.Told.{progress};
+ghost use Rattle.gw_tx.specs.LimitedText.{progress};
 ghost use Rattle.gw_tx.specs.Transactions.{answered, one_action_reply, replied, action_error};
 
-use crate::told::Progress;
+use crate::limited_text::Progress;
 use gw_base::{Code, CtxRef, Items, NoMemory};
 use gw_cmd::At;
 use gw_reply::{ActionReply, CommandReply, ContextPart, ReplyWriter};

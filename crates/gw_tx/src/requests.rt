@@ -3,11 +3,11 @@
 ghost use Rattle.std.specs.Prelude.{◌≡◌, IfOk, OnOk};
 ghost use Rattle.gw_reserve.specs.Owned.{AreFreeSlots, paired};
 ghost use Rattle.gw_tx.specs.Footprints.{footprint_of, Covers};
-ghost use Rattle.gw_tx.specs.Told.{within};
+ghost use Rattle.gw_tx.specs.LimitedText.{within};
 ghost use Rattle.gw_tx.specs.Transactions.{paired_transaction};
 
 use crate::actions::actions;
-use crate::told::{Told, told_of, writer_within};
+use crate::limited_text::{LimitedText, limited_text_of, writer_within};
 use gw_base::{Items, NoMemory, Rules};
 use gw_msg::Request;
 use gw_reply::{ReplyWriter, TxReply};
@@ -69,11 +69,11 @@ pub fn transaction_within(
     owned: &Owned,
     block: Items<u8>,
     limit: usize,
-) -> Result<Told, NoMemory>
+) -> Result<LimitedText, NoMemory>
     requires covered { Covers draft.old (footprint_of (paired request.now owned.now) draft.old.maps) }
     requires unused { AreFreeSlots draft.old.maps owned.now.slots }
     ensures maps { OnOk result (draft.new.maps ≡ (paired_transaction rules.now request.now (paired request.now owned.now) draft.old.maps).maps) }
-    ensures answer { IfOk result (λ told. told ≡ within limit (paired_transaction rules.now request.now (paired request.now owned.now) draft.old.maps).answer) }
+    ensures answer { IfOk result (λ limited_text. limited_text ≡ within limit (paired_transaction rules.now request.now (paired request.now owned.now) draft.old.maps).answer) }
     ensures keys { draft.new.keys ≡ draft.old.keys }
 {
     let written = actions(
@@ -85,5 +85,5 @@ pub fn transaction_within(
         request.actions.as_slice(),
         writer_within(block, request.id, limit),
     )?;
-    Ok(told_of(written))
+    Ok(limited_text_of(written))
 }

@@ -140,7 +140,7 @@ fn a_failed_flush_ends_a_replay(rt: HostRuntime) -> Result<(), Fail> {
 }
 
 #[test]
-fn a_burst_is_not_carried_out_after_a_failed_read(rt: HostRuntime) -> Result<(), Fail> {
+fn a_burst_is_not_executed_after_a_failed_read(rt: HostRuntime) -> Result<(), Fail> {
     let gateway = after_a_failed_read(&rt)?;
     let tables = b"cursors 0 0\nterm T/1 - InService\nkept 0\n";
     has_tables(rt.alloc(), &gateway, tables)
@@ -148,7 +148,7 @@ fn a_burst_is_not_carried_out_after_a_failed_read(rt: HostRuntime) -> Result<(),
 
 // The same gateway takes the burst up again, once all of it is read.
 #[test]
-fn a_burst_was_carried_out_before_a_failed_write(rt: HostRuntime) -> Result<(), Fail> {
+fn a_burst_was_executed_before_a_failed_write(rt: HostRuntime) -> Result<(), Fail> {
     let mut gateway = after_a_failed_read(&rt)?;
     let mut out = Sink::new(rt.alloc(), 0, End::IsFull);
     let ended = replayed(&rt, &mut Source::slow(MAKES), &mut out, &mut gateway);

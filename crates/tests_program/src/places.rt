@@ -9,8 +9,8 @@ use std::test::Fail;
 /// How many names are tried.
 const NAMES: u32 = 100;
 
-/// A new file, which was not there before, and its name. It lies in the folder that the tests run in, which each run has for
-/// itself. Whoever asks takes it away.
+/// A new file, which was not there before, and its name. It lies in the folder that the tests run in, which each run
+/// has for itself. Whoever reads it takes it away.
 pub(crate) fn new_file<R: Files + AllocGlobal>(rt: &R) -> Result<(String, R::File), Fail> {
     for number in 0..NAMES {
         let name = format!(in rt.alloc(); "test-{number}.conf")?;
@@ -30,7 +30,7 @@ pub(crate) fn file_of<R: Files + AllocGlobal>(rt: &R, text: &str) -> Result<Stri
     Ok(name)
 }
 
-/// An address of the host that nobody has: the system picks its port, and it is let go again.
+/// An address of the host that nobody has: the system picks its port, and it is free again.
 pub(crate) fn free_address(rt: &impl Net, host: IpAddr) -> Result<SocketAddr, Fail> {
     Ok(rt.bind_udp(SocketAddr::from((host, 0)))?.local_addr()?)
 }

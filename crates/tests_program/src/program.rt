@@ -14,7 +14,7 @@ use std::time::Clock;
 /// A file that is not there, since its folder is none.
 const MISSING: &str = "/dev/null/missing.conf";
 
-/// The program fails so on a file of so many bytes: the line, and the file's name behind it where that is told.
+/// The program fails so on a file of so many bytes: the line, and the file's name behind it where that is written.
 fn fails_at<R: Files + Net + Wait + Threads + Clock + Sync + AllocGlobal>(
     rt: &R,
     length: u64,
@@ -23,8 +23,8 @@ fn fails_at<R: Files + Net + Wait + Threads + Clock + Sync + AllocGlobal>(
 ) -> Result<(), Fail> {
     let (name, file) = new_file(rt)?;
     file.set_len(length)?;
-    let told = if is_named { name.as_str() } else { "" };
-    let line = format!(in rt.alloc(); "{line}{told}\n")?;
+    let behind = if is_named { name.as_str() } else { "" };
+    let line = format!(in rt.alloc(); "{line}{behind}\n")?;
     Run::of(rt, &["check", name.as_str()]).fails(line.as_bytes())?;
     Ok(fs::remove_file(rt, name.as_str())?)
 }

@@ -13,7 +13,7 @@ use tests_wanted::{is_so, is_text};
 pub(crate) const CONFIGURATION: &str =
     "mid [10.0.0.1]:2944\nmedia 10.0.0.1\ncontexts 8\nslots 4\nmembers 3\nkeep 4\nterm T/1\nterm T/2\nterm T/3\nterm T/4\n";
 
-/// What a run left. What is asked of it takes it, so that a test lets none go.
+/// What a run left. What is read of it takes it, so that a test drops none unread.
 pub(crate) struct Run {
     status: u8,
     out: Vec<u8>,

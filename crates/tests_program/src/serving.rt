@@ -1,6 +1,7 @@
 //! Serving over the loopback. What is to wait when the gateway first looks is sent from within the line `listening`,
 //! which it writes once it is bound: so each burst is what a test says, without a thread.
 
+use crate::addresses::everywhere;
 use crate::networks::OneSocket;
 use crate::places::{file_of, free_address};
 use crate::runs::{CONFIGURATION, Run};
@@ -19,7 +20,7 @@ use std::{fs, thread};
 use tests_wanted::{is_so, is_text};
 
 /// A transaction, and its answer.
-const ASKED: &[u8] = b"MEGACO/1 [10.0.0.9]:2944 Transaction=1{Context=${Add=T/1,Add=$}}";
+const ONE_REQUEST: &[u8] = b"MEGACO/1 [10.0.0.9]:2944 Transaction=1{Context=${Add=T/1,Add=$}}";
 
 const ANSWERED: &[u8] = b"MEGACO/1 [10.0.0.1]:2944\nReply=1{Context=1{Add=T/1,Add=RTP/0}}";
 
@@ -32,10 +33,10 @@ const OTHER_ANSWERED: &[u8] = b"MEGACO/1 [10.0.0.1]:2944\nReply=2{Context=2{Add=
 const NO_MESSAGE: &[u8] = b"MEGACO/1 [10.0.0.1]:2944\nError=400{\"Syntax error in message\"}";
 
 /// What the program says once it serves.
-const SERVING: &[u8] = b"listening\n";
+pub(crate) const SERVING: &[u8] = b"listening\n";
 
 /// What it says where it cannot bind the address.
-const NOT_BOUND: &[u8] = b"h248gw: serve bind\n";
+pub(crate) const NOT_BOUND: &[u8] = b"h248gw: serve bind\n";
 
 /// How many addresses are tried.
 const ATTEMPTS: u32 = 20;
@@ -55,17 +56,17 @@ struct Sent<'a> {
 struct Starter<'a> {
     server: SocketAddr,
     sent: &'a [Sent<'a>],
-    told: Vec<u8>,
+    written: Vec<u8>,
 }
 
 impl Write for Starter<'_> {
     fn write(&mut self, buf: &[u8]) -> io::Result<usize> {
-        if self.told.is_empty() {
+        if self.written.is_empty() {
             for sent in self.sent {
                 sent.from.send_to(sent.bytes, self.server)?;
             }
         }
-        self.told.extend_from_slice(buf)?;
+        self.written.extend_from_slice(buf)?;
         Ok(buf.len())
     }
 
@@ -119,7 +120,7 @@ fn is_served<R: Files + Net + Wait + Threads + Clock + Sync + AllocGlobal>(
     let mut out = Starter {
         server,
         sent,
-        told: Vec::new(rt.alloc()),
+        written: Vec::new(rt.alloc()),
     };
     let mut input = b"".as_slice();
     let mut err = Stream {
@@ -131,7 +132,7 @@ fn is_served<R: Files + Net + Wait + Threads + Clock + Sync + AllocGlobal>(
         return Ok(false);
     }
     is_so(status == 0 && err.stream.is_empty(), "a run that is done")?;
-    is_text(out.told.as_slice(), said)?;
+    is_text(out.written.as_slice(), said)?;
     Ok(true)
 }
 
@@ -167,7 +168,7 @@ fn serves<R: Files + Net + Wait + Threads + Clock + Sync + AllocGlobal>(
 }
 
 /// A socket of the loopback.
-fn client(rt: &impl Net, host: IpAddr) -> Result<UdpSocket, Fail> {
+pub(crate) fn client(rt: &impl Net, host: IpAddr) -> Result<UdpSocket, Fail> {
     let client = rt.bind_udp(SocketAddr::from((host, 0)))?;
     client.set_read_timeout(Some(Duration::from_millis(20)))?;
     Ok(client)
@@ -191,12 +192,12 @@ fn padded(alloc: Global, text: &[u8], length: usize) -> Result<Vec<u8>, Fail> {
     Ok(bytes)
 }
 
-const IPV4: IpAddr = IpAddr::V4(Ipv4Addr::LOCALHOST);
+pub(crate) const IPV4: IpAddr = IpAddr::V4(Ipv4Addr::LOCALHOST);
 
-const IPV6: IpAddr = IpAddr::V6(Ipv6Addr::LOCALHOST);
+pub(crate) const IPV6: IpAddr = IpAddr::V6(Ipv6Addr::LOCALHOST);
 
 /// Another address of the loopback.
-fn near() -> IpAddr {
+pub(crate) fn near() -> IpAddr {
     IpAddr::V4(Ipv4Addr::new(127, 0, 0, 2))
 }
 
@@ -206,7 +207,7 @@ fn two_senders_in_one_burst(rt: HostRuntime) -> Result<(), Fail> {
     let sent = [
         Sent {
             from: &one,
-            bytes: ASKED,
+            bytes: ONE_REQUEST,
         },
         Sent {
             from: &other,
@@ -224,7 +225,7 @@ fn two_senders_on_two_addresses(rt: HostRuntime) -> Result<(), Fail> {
     let sent = [
         Sent {
             from: &one,
-            bytes: ASKED,
+            bytes: ONE_REQUEST,
         },
         Sent {
             from: &near,
@@ -246,7 +247,7 @@ fn a_controller_and_a_stranger(rt: HostRuntime) -> Result<(), Fail> {
         },
         Sent {
             from: &controller,
-            bytes: ASKED,
+            bytes: ONE_REQUEST,
         },
     ];
     let service = Service {
@@ -260,7 +261,7 @@ fn a_controller_and_a_stranger(rt: HostRuntime) -> Result<(), Fail> {
     has_answers(&controller, 1, ANSWERED)
 }
 
-/// Asks again when the first answer has come, so that a burst follows another; whether each answer is the one that is
+/// Sends again when the first answer has come, so that a burst follows another; whether each answer is the one that is
 /// wanted.
 fn is_answered_twice(client: &UdpSocket) -> io::Result<bool> {
     let mut buffer = [0u8; 1024];
@@ -277,15 +278,15 @@ fn two_bursts(rt: HostRuntime) -> Result<(), Fail> {
     client.set_read_timeout(Some(Duration::from_secs(10)))?;
     let sent = [Sent {
         from: &client,
-        bytes: ASKED,
+        bytes: ONE_REQUEST,
     }];
-    let (served, asked) = thread::join(
+    let (served, each_answered) = thread::join(
         &rt,
         || serves(&rt, IPV4, "2", &sent, SERVING),
         || is_answered_twice(&client),
     );
     served?;
-    is_so(asked?, "an answer in each burst")
+    is_so(each_answered?, "an answer in each burst")
 }
 
 /// How many datagrams wait when one more is sent than a burst may have: all of them, or as many as a socket's buffer
@@ -294,7 +295,7 @@ fn waiting(rt: &impl Net) -> Result<u32, Fail> {
     let (held, sender) = (client(rt, IPV4)?, client(rt, IPV4)?);
     let address = held.local_addr()?;
     for _ in 0..=LARGEST_BURST {
-        sender.send_to(ASKED, address)?;
+        sender.send_to(ONE_REQUEST, address)?;
     }
     let mut buffer = [0u8; 1024];
     for count in 0..=LARGEST_BURST {
@@ -311,7 +312,7 @@ fn one_more_than_a_burst_waits(rt: HostRuntime) -> Result<(), Fail> {
     let client = client(&rt, IPV4)?;
     let sent = [Sent {
         from: &client,
-        bytes: ASKED,
+        bytes: ONE_REQUEST,
     }; 257];
     serves(&rt, IPV4, "1", &sent, SERVING)?;
     has_answers(&client, waiting.min(LARGEST_BURST), ANSWERED)?;
@@ -325,7 +326,7 @@ fn one_more_than_a_burst_waits(rt: HostRuntime) -> Result<(), Fail> {
 #[test]
 fn datagrams_of_every_length(rt: HostRuntime) -> Result<(), Fail> {
     let (none, some, all) = (client(&rt, IPV4)?, client(&rt, IPV4)?, client(&rt, IPV4)?);
-    let longer = padded(rt.alloc(), ASKED, 1_473)?;
+    let longer = padded(rt.alloc(), ONE_REQUEST, 1_473)?;
     let longest = padded(rt.alloc(), OTHER, 65_507)?;
     let sent = [
         Sent {
@@ -350,7 +351,7 @@ fn datagrams_of_every_length(rt: HostRuntime) -> Result<(), Fail> {
 #[test]
 fn a_datagram_that_is_too_long(rt: HostRuntime) -> Result<(), Fail> {
     let (long, good) = (client(&rt, IPV6)?, client(&rt, IPV6)?);
-    let bytes = padded(rt.alloc(), ASKED, 65_508)?;
+    let bytes = padded(rt.alloc(), ONE_REQUEST, 65_508)?;
     let sent = [
         Sent {
             from: &long,
@@ -358,91 +359,13 @@ fn a_datagram_that_is_too_long(rt: HostRuntime) -> Result<(), Fail> {
         },
         Sent {
             from: &good,
-            bytes: ASKED,
+            bytes: ONE_REQUEST,
         },
     ];
     let said = b"listening\ndropped 1 datagrams: too long\n";
     serves(&rt, IPV6, "1", &sent, said)?;
     has_answers(&long, 0, b"")?;
     has_answers(&good, 1, ANSWERED)
-}
-
-#[test]
-fn an_address_that_cannot_be_bound(rt: HostRuntime) -> Result<(), Fail> {
-    let file = file_of(&rt, CONFIGURATION)?;
-    let taken = rt.bind_udp(SocketAddr::from((IPV4, 0)))?;
-    let own = format!(in rt.alloc(); "{}", taken.local_addr()?)?;
-    for listen in [
-        own.as_str(),
-        "127.0.0.1",
-        "localhost:2944",
-        "10.0.0.1:2944 ",
-        "",
-    ] {
-        Run::of(&rt, &["serve", file.as_str(), "--listen", listen]).fails(NOT_BOUND)?;
-    }
-    Ok(fs::remove_file(&rt, file.as_str())?)
-}
-
-/// The address that is bound where the words name none.
-fn everywhere() -> SocketAddr {
-    SocketAddr::new(IpAddr::V4(Ipv4Addr::UNSPECIFIED), 2944)
-}
-
-// Of each address, the family and the port are those that the words name.
-#[test]
-fn the_address_that_is_bound(rt: HostRuntime) -> Result<(), Fail> {
-    let file = file_of(&rt, CONFIGURATION)?;
-    let socket = client(&rt, IPV4)?;
-    let network = OneSocket {
-        rt: &rt,
-        address: SocketAddr::new(IPV4, 2945),
-        socket: &socket,
-    };
-    let words = [
-        "serve",
-        file.as_str(),
-        "--listen",
-        "127.0.0.1:2945",
-        "--bursts",
-        "0",
-    ];
-    Run::of(&network, words.as_slice()).explains(SERVING)?;
-    let network = OneSocket {
-        rt: &rt,
-        address: SocketAddr::new(near(), 0),
-        socket: &socket,
-    };
-    let words = [
-        "serve",
-        file.as_str(),
-        "--listen",
-        "127.0.0.2:0",
-        "--bursts",
-        "0",
-    ];
-    Run::of(&network, words.as_slice()).explains(SERVING)?;
-    let network = OneSocket {
-        rt: &rt,
-        address: SocketAddr::new(IPV6, 2944),
-        socket: &socket,
-    };
-    let words = [
-        "serve",
-        file.as_str(),
-        "--listen",
-        "[::1]:2944",
-        "--bursts",
-        "0",
-    ];
-    Run::of(&network, words.as_slice()).explains(SERVING)?;
-    let network = OneSocket {
-        rt: &rt,
-        address: everywhere(),
-        socket: &socket,
-    };
-    Run::of(&network, &["serve", file.as_str(), "--bursts", "0"]).explains(SERVING)?;
-    Ok(fs::remove_file(&rt, file.as_str())?)
 }
 
 /// The program serves two bursts over the network of a runtime, and ends with a fault: this was said, and this is its
@@ -469,13 +392,13 @@ fn a_socket_that_cannot_be_waited_for(rt: HostRuntime) -> Result<(), Fail> {
     fails_at(&network, b"", b"h248gw: serve poll\n")
 }
 
-// A socket with one peer is told when that has gone, at the receipt behind what was sent to it. The peer has another
+// A socket with one peer learns when that has gone, at the receipt behind what was sent to it. The peer has another
 // address of the loopback, at the client's port, so that nobody takes it meanwhile.
 #[test]
 fn a_datagram_that_cannot_be_received(rt: HostRuntime) -> Result<(), Fail> {
     let (server, client) = (client(&rt, IPV4)?, client(&rt, IPV4)?);
     let peer = rt.bind_udp(SocketAddr::from((near(), client.local_addr()?.port())))?;
-    client.send_to(ASKED, server.local_addr()?)?;
+    client.send_to(ONE_REQUEST, server.local_addr()?)?;
     peer.send_to(OTHER, server.local_addr()?)?;
     server.connect(peer.local_addr()?)?;
     drop(peer);

@@ -5,7 +5,7 @@ ghost use Rattle.std.specs.List.{count_by, list_any};
 ghost use Rattle.gw_desc.specs.Checks.{has_twice, has_kind_twice, has_part_twice, is_media_twice, numbers_in, number_in, first_stream, first_in};
 ghost use Rattle.gw_desc.specs.Twice.{has_number_twice};
 ghost use Rattle.gw_desc.specs.OfKind.{is_part_of};
-ghost use Rattle.gw_desc.specs.Marks.{is_marked, with_mark};
+ghost use Rattle.gw_desc.specs.NumberSet.{is_in_set, with_mark};
 
 use super::counts::{OfKind, has_one, has_two, up_to_two};
 use super::kinds::same_kept;
@@ -143,19 +143,19 @@ fn bit_of(number: u16) -> u64
     1 << (number % 64)
 }
 
-/// Marks the number; whether it was marked.
-#[tactic(auto, unfolding(crate::specs::Marks::is_marked, crate::specs::Marks::with_mark))]
+/// Sets the bit of the number; whether it was set.
+#[tactic(auto, unfolding(crate::specs::NumberSet::is_in_set, crate::specs::NumberSet::with_mark))]
 fn mark(seen: &mut [u64], number: u16) -> bool
     requires { length seen.old ≡ 1024 }
-    ensures told { result ≡ is_marked seen.old number }
+    ensures was_set { result ≡ is_in_set seen.old number }
     ensures after { seen.new ≡ with_mark seen.old number }
     ensures small { number < 2 ^ 16 }
 {
     let bit = bit_of(number);
     let word = &mut seen[(number / 64) as usize];
-    let told = *word & bit != 0;
+    let was_set = *word & bit != 0;
     *word |= bit;
-    told
+    was_set
 }
 
 /// The number of a Stream.
@@ -203,10 +203,10 @@ fn is_number_twice_by_pairs(parts: &[MediaPart<'_>]) -> bool
     false
 }
 
-/// Whether two Streams have one number, by a mark for each. Not inlined, since the marks are 8,192 bytes, which are
+/// Whether two Streams have one number, by a bit for each. Not inlined, since the bits are 8,192 bytes, which are
 /// cleared where the function begins.
 #[inline(never)]
-fn is_number_twice_by_marks(parts: &[MediaPart<'_>]) -> bool
+fn is_number_twice_by_bits(parts: &[MediaPart<'_>]) -> bool
     ensures { result ≡ has_number_twice (numbers_in parts.now) }
 {
     let mut seen = [0u64; 1024];
@@ -227,7 +227,7 @@ fn has_number_twice(parts: &[MediaPart<'_>]) -> bool
     if parts.len() <= FEW {
         is_number_twice_by_pairs(parts)
     } else {
-        is_number_twice_by_marks(parts)
+        is_number_twice_by_bits(parts)
     }
 }
 

@@ -3,5 +3,5 @@ use Rattle.cases_board.proofs.play.play.Goals as goal
 
 pub walk-requires : goal.walk-requires
 walk-requires c =
-    held_begun c.args.manner c.args.asked.now c.args.tables c.in-Ok.board c.in-Ok-none_held.held.items
+    held_begun c.args.profile c.args.requested.now c.args.tables c.in-Ok.board c.in-Ok-none_held.held.items
     c.in-Ok.ensures.board c.in-Ok-none_held.ensures.none c.in-Ok-none_held.ensures.count

@@ -17,6 +17,6 @@ loop-place-preserved g c =
       over = c.carry_place.ensures.keys ∙ so_far.over;
       goes_on = λ start h. c.in_ok-carry_place.ensures.goes_on start (so_far.goes_on start h);
       closed = c.in_ok-carry_place.ensures.closed;
-      asked = c.carry_place.ensures.asked ∙ so_far.asked;
+      requested = c.carry_place.ensures.requested ∙ so_far.requested;
       len = c.carry_place.ensures.len ∙ so_far.len;
     }

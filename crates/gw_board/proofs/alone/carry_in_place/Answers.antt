@@ -1,5 +1,5 @@
 use Rattle.std.proofs.Common.{ap, ◌∙◌}
-use Rattle.gw_table.specs.Originals.{keys_written}
+use Rattle.gw_table.specs.UndoLog.{keys_written}
 use Rattle.gw_table.specs.Parts.{Parted}
 use Rattle.gw_board.specs.Carried.{done}
 use Rattle.gw_board.proofs.Begun.{alone_since, kept_since, start_maps}
@@ -14,8 +14,8 @@ returns-in_default-clause-err c = record {
 
 pub returns-clause-ok : goal.returns-clause-ok
 returns-clause-ok c = record {
-  maps = c.into_tables-tables.ensures.maps ∙ c.in-Ok.ensures.maps ∙ ap (λ (p : Parted). (done c.args.manner.now c.args.asked.now p.maps).maps) c.of_tables-draft.ensures;
-  reply = c.in-Ok.ensures.reply ∙ ap (λ (p : Parted). (done c.args.manner.now c.args.asked.now p.maps).answer) c.of_tables-draft.ensures;
+  maps = c.into_tables-tables.ensures.maps ∙ c.in-Ok.ensures.maps ∙ ap (λ (p : Parted). (done c.args.profile.now c.args.requested.now p.maps).maps) c.of_tables-draft.ensures;
+  reply = c.in-Ok.ensures.reply ∙ ap (λ (p : Parted). (done c.args.profile.now c.args.requested.now p.maps).answer) c.of_tables-draft.ensures;
   here = c.into_tables-tables.ensures.here;
   kept = kept_since c.args.tables c.args.earlier c.of_tables-draft.result c.carry_on.new.draft.keys c.of_tables-draft.ensures c.carry_on.ensures.keys c.into_tables-tables.result.0 c.into_tables-tables.ensures.kept;
   ready = c.into_tables-tables.ensures.ready;

@@ -7,5 +7,5 @@ pub returns-clause-reply : goal.returns-clause-reply
 returns-clause-reply c =
     let maps : c.of_part-draft.result.maps ≡ c.job.inside.part.maps = ap (λ p. p.maps) (c.of_part-draft.ensures ∙ c.in_ok-copy.ensures) in
     c.in_ok-text.ensures.reply
-    ∙ (λ i. (done c.job.inside.manner (c.get.ensures i) (maps i)).answer)
+    ∙ (λ i. (done c.job.inside.profile (c.get.ensures i) (maps i)).answer)
     ∙ ap (λ (h : Handed). (outcome_of h).answer) c.job.view_is

@@ -6,13 +6,13 @@ use Rattle.gw_board.specs.Journal.{undone}
 use Rattle.gw_board.proofs.journal.put_all_back.Given as goal
 
 -- the originals that are left lead back to where all of them did
-abbrev pub invariant-loop-original : goal.invariant-loop-original
-invariant-loop-original l = record {
+abbrev pub invariant-loop-undo_step : goal.invariant-loop-undo_step
+invariant-loop-undo_step l = record {
   here : NoneIsOut l.tables;
-  ready : Each (λ o. AreReady o.keys l.tables) l.originals.items;
-  back : undone l.originals.items (maps_of l.tables) ≡ undone l.initial.originals.items (maps_of l.initial.tables);
-  capacity : vec_capacity l.originals ≡ vec_capacity l.initial.originals;
+  ready : Each (λ o. AreReady o.keys l.tables) l.undo_log.items;
+  back : undone l.undo_log.items (maps_of l.tables) ≡ undone l.initial.undo_log.items (maps_of l.initial.tables);
+  capacity : vec_capacity l.undo_log ≡ vec_capacity l.initial.undo_log;
 }
 
-abbrev pub decreases-loop-original : goal.decreases-loop-original
-decreases-loop-original l = vec_len l.originals
+abbrev pub decreases-loop-undo_step : goal.decreases-loop-undo_step
+decreases-loop-undo_step l = vec_len l.undo_log

@@ -2,54 +2,53 @@ use Rattle.std.proofs.Common.{◌&&◌, Bool, true, false, not, List, is_some, r
 use Rattle.std.specs.Bool.{then_some}
 use Rattle.std.specs.Prelude.{◌||◌, IfSome}
 use Rattle.gw_base.specs.declared.key.Key.{Key}
-use Rattle.gw_base.specs.Keys.{has}
 use Rattle.gw_table.specs.Stored.{maps_of}
 use Rattle.gw_foot.specs.Meets.{meets}
-use Rattle.gw_board.specs.Carried.{Asked, keys_of}
+use Rattle.gw_board.specs.Carried.{keys_of}
 use Rattle.gw_board.specs.Core.{AreKeysOf}
-use Rattle.gw_board.specs.Seats.{standing_of}
+use Rattle.gw_board.specs.BoardEntries.{standing_of}
 use Rattle.gw_board.specs.Waiting.{meet_waiting}
 use Rattle.gw_board.specs.Waves.{is_pending}
-use Rattle.gw_board.specs.declared.seat.Stage.{Stage}
+use Rattle.gw_board.specs.declared.board_entry.Stage.{Stage}
 use Rattle.gw_board.proofs.Alike.{meets_alike}
 use Rattle.gw_board.proofs.Outs.{SameKeys}
 use Rattle.gw_board.proofs.Waits.{waiting_alike}
 use Rattle.gw_board.proofs.plan.join_waiting.Goals as goal
 use Rattle.gw_board.proofs.plan.join_waiting.Goals.{After-then_some}
 
-shown : (free : Bool) (keys : List Key) → is_some (then_some free keys) ≡ free
-shown true keys = refl
-shown false keys = refl
+visible : (free : Bool) (keys : List Key) → is_some (then_some free keys) ≡ free
+visible true keys = refl
+visible false keys = refl
 
-if_shown : (P : List Key → Type 0) (free : Bool) (keys : List Key) → P keys → IfSome (then_some free keys) P
-if_shown P true keys h = h
-if_shown P false keys h = tt
+if_visible : (P : List Key → Type 0) (free : Bool) (keys : List Key) → P keys → IfSome (then_some free keys) P
+if_visible P true keys h = h
+if_visible P false keys h = tt
 
 module _ (c : After-then_some) where
   abbrev mine : List Key
-  mine = keys_of c.args.seat.now.task (maps_of c.args.tables.now)
+  mine = keys_of c.args.board_entry.now.task (maps_of c.args.tables.now)
 
   same : SameKeys c.in_ok-keys.keys mine
-  same = λ q. c.in_ok-keys.ensures.same q ∙ ap (λ (x : Asked). has (keys_of x (maps_of c.args.tables.now)) q) c.task-task.ensures
+  same = c.in_ok-keys.ensures.same
 
-  waits : c.meets-free.result ≡ meet_waiting c.args.waiting.now mine
-  waits = c.meets-free.ensures ∙ ap (meet_waiting c.args.waiting.now) c.list.ensures.list ∙ waiting_alike c.args.waiting.now c.in_ok-keys.keys mine same
+  is_met : c.in_ok-is_met.is_met ≡ meet_waiting c.args.waiting.now mine
+  is_met = c.in_ok-is_met.ensures.met ∙ ap (meet_waiting c.args.waiting.now) c.list.ensures.list ∙ waiting_alike c.args.waiting.now c.in_ok-keys.keys mine same
 
-  free : not c.meets-free.result ≡ (is_pending (standing_of c.args.seat.now.stage) && not (meet_waiting c.args.waiting.now mine))
-  free = ap (λ b. not b) waits ∙ ap (λ (x : Stage). is_pending (standing_of x) && not (meet_waiting c.args.waiting.now mine)) (sym c.in-Pending.is)
+  free : not c.in_ok-is_met.is_met ≡ (is_pending (standing_of c.args.board_entry.now.stage) && not (meet_waiting c.args.waiting.now mine))
+  free = ap (λ b. not b) is_met ∙ ap (λ (x : Stage). is_pending (standing_of x) && not (meet_waiting c.args.waiting.now mine)) (sym c.in-Pending.is)
 
-  more : (k : List Key) → (meet_waiting c.args.waiting.now k || meets c.list-2.result.now k) ≡ (meet_waiting c.args.waiting.now k || (is_pending (standing_of c.args.seat.now.stage) && meets mine k))
+  more : (k : List Key) → (meet_waiting c.args.waiting.now k || meets c.list.result.now k) ≡ (meet_waiting c.args.waiting.now k || (is_pending (standing_of c.args.board_entry.now.stage) && meets mine k))
   more k =
-      ap (λ b. meet_waiting c.args.waiting.now k || b) (ap (λ (l : List Key). meets l k) c.list-2.ensures.list ∙ meets_alike c.in_ok-keys.keys k mine k same (λ q. refl))
+      ap (λ b. meet_waiting c.args.waiting.now k || b) (ap (λ (l : List Key). meets l k) c.list.ensures.list ∙ meets_alike c.in_ok-keys.keys k mine k same (λ q. refl))
       ∙ ap (λ (x : Stage). meet_waiting c.args.waiting.now k || (is_pending (standing_of x) && meets mine k)) (sym c.in-Pending.is)
 
 pub returns-clause-free : goal.returns-clause-free
-returns-clause-free c = ap is_some c.then_some.ensures ∙ shown (not c.meets-free.result) c.in_ok-keys.keys ∙ free c
+returns-clause-free c = ap is_some c.then_some.ensures ∙ visible (not c.in_ok-is_met.is_met) c.in_ok-keys.keys ∙ free c
 
 pub returns-clause-keys : goal.returns-clause-keys
 returns-clause-keys c =
-    let Mine : List Key → Type 0 = AreKeysOf c.args.seat.now.task (maps_of c.args.tables.now) in
-    subst (λ found. IfSome found Mine) (sym c.then_some.ensures) (if_shown Mine (not c.meets-free.result) c.in_ok-keys.keys (same c))
+    let Mine : List Key → Type 0 = AreKeysOf c.args.board_entry.now.task (maps_of c.args.tables.now) in
+    subst (λ found. IfSome found Mine) (sym c.then_some.ensures) (if_visible Mine (not c.in_ok-is_met.is_met) c.in_ok-keys.keys (same c))
 
 pub returns-clause-waiting : goal.returns-clause-waiting
-returns-clause-waiting c = λ k. c.in_ok-add.ensures k ∙ more c k
+returns-clause-waiting c = λ k. c.in_ok-is_met.ensures.more k ∙ more c k

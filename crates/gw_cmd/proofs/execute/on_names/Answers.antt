@@ -8,7 +8,7 @@ use Rattle.gw_reply.specs.declared.reply.CommandReply.{CommandReply}
 use Rattle.gw_table.specs.declared.attempts.Attempts.{Attempts}
 use Rattle.gw_table.specs.Maps.{Outcome}
 use Rattle.gw_table.specs.Parts.{HoldsPlace}
-use Rattle.gw_refusal.specs.Asked.{is_move}
+use Rattle.gw_refusal.specs.Requested.{is_move}
 use Rattle.gw_refusal.specs.Targets.{targets}
 use Rattle.gw_cmd.specs.declared.outcome.CmdOutcome.{CmdOutcome}
 use Rattle.gw_cmd.specs.Commands.{reply, on_targets, first_error, outcome_of}

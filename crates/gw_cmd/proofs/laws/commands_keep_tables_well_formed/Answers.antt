@@ -8,4 +8,4 @@ any_slot None = tt
 any_slot (Some s) = tt
 
 pub returns : goal.returns
-returns c = λ rules at slot asked m u w. kept_command rules (λ _. true) (λ _. Unit {0}) (whole_is_kept rules (λ _. Unit {0})) at slot asked m (λ t. refl) u (any_slot slot) w
+returns c = λ rules at slot requested m u w. kept_command rules (λ _. true) (λ _. Unit {0}) (whole_is_kept rules (λ _. Unit {0})) at slot requested m (λ t. refl) u (any_slot slot) w

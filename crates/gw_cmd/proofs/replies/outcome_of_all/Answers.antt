@@ -5,7 +5,7 @@ use Rattle.std.proofs.lemmas.Grind.{common_steps}
 use Rattle.gw_base.specs.declared.code.Code.{Code}
 use Rattle.gw_reply.specs.declared.writer.ReplyWriter.{ReplyWriter}
 use Rattle.gw_reply.specs.Writers.{written_behind}
-use Rattle.gw_refusal.specs.Asked.{is_wildcard}
+use Rattle.gw_refusal.specs.Requested.{is_wildcard}
 use Rattle.gw_refusal.specs.Places.{is_unmade}
 use Rattle.gw_reply.specs.Replies.{command_reply_text}
 use Rattle.gw_reply.specs.declared.parts.ReplyPart.{ReplyPart}

@@ -17,8 +17,8 @@ returns-in_ok-extend_from_slice-in-Some-clause-text c =
     ∙ ap (λ (l : List ℕ). (c.args.out.now.items ++ (take (same + at) text ++ c.in-Some.new.now)) ++ l) c.behind.ensures
     ∙ last_filled address port c.in-Some.new.now c.args.out.now.items text same at filled.0 c.requires.last filled.1
 
-pub returns-in_ok-extend_from_slice-in-Some-clause-told : goal.returns-in_ok-extend_from_slice-in-Some-clause-told
-returns-in_ok-extend_from_slice-in-Some-clause-told c = told_last (is_fillable (drop c.args.same c.args.text.now)) (is_fillable_line (drop c.args.same c.args.text.now)) true (last_told c.args.address.now c.args.port.now (drop c.args.same c.args.text.now) c.requires.last) (c.in-Some.ensures.told ∙ ap is_fillable_line c.text_from.ensures)
+pub returns-in_ok-extend_from_slice-in-Some-clause-fillable : goal.returns-in_ok-extend_from_slice-in-Some-clause-fillable
+returns-in_ok-extend_from_slice-in-Some-clause-fillable c = told_last (is_fillable (drop c.args.same c.args.text.now)) (is_fillable_line (drop c.args.same c.args.text.now)) true (last_told c.args.address.now c.args.port.now (drop c.args.same c.args.text.now) c.requires.last) (c.in-Some.ensures.fillable ∙ ap is_fillable_line c.text_from.ensures)
 
 pub returns-in_ok-extend_from_slice-in-None-clause-text : goal.returns-in_ok-extend_from_slice-in-None-clause-text
 returns-in_ok-extend_from_slice-in-None-clause-text c =
@@ -27,5 +27,5 @@ returns-in_ok-extend_from_slice-in-None-clause-text c =
     c.in_ok-extend_from_slice-in-None.ensures.items
     ∙ ap (λ (l : List ℕ). c.args.out.now.items ++ l) (sym (last_stays c.args.address.now c.args.port.now c.args.text.now c.args.same c.requires.last stays))
 
-pub returns-in_ok-extend_from_slice-in-None-clause-told : goal.returns-in_ok-extend_from_slice-in-None-clause-told
-returns-in_ok-extend_from_slice-in-None-clause-told c = told_last (is_fillable (drop c.args.same c.args.text.now)) (is_fillable_line (drop c.args.same c.args.text.now)) false (last_told c.args.address.now c.args.port.now (drop c.args.same c.args.text.now) c.requires.last) (c.in-None.ensures.told ∙ ap is_fillable_line c.text_from.ensures)
+pub returns-in_ok-extend_from_slice-in-None-clause-fillable : goal.returns-in_ok-extend_from_slice-in-None-clause-fillable
+returns-in_ok-extend_from_slice-in-None-clause-fillable c = told_last (is_fillable (drop c.args.same c.args.text.now)) (is_fillable_line (drop c.args.same c.args.text.now)) false (last_told c.args.address.now c.args.port.now (drop c.args.same c.args.text.now) c.requires.last) (c.in-None.ensures.fillable ∙ ap is_fillable_line c.text_from.ensures)

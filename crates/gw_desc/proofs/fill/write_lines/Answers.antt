@@ -38,7 +38,7 @@ loop-len-preserved-in-Some-choice_of c =
           ∙ ap (λ (l : List ℕ). (c.loop-len.out.items ++ (take (same + at) rest ++ c.in-Some-choice_of.new.now)) ++ (take (len - at) l ++ filled_text address port (drop (len - at) l))) left
           ∙ line_filled address port c.in-Some-choice_of.new.now c.loop-len.out.items rest same len at within below first end filled.1
           ∙ c.loop-len.invariant.2,
-      told_here c.loop-len.told (is_fillable_line (take len d)) (is_fillable (drop (same + (len + 1)) rest)) (is_fillable c.args.text.now) (is_fillable d) c.loop-len.invariant.3 next (c.in-Some-choice_of.ensures.told ∙ ap is_fillable_line c.line_at.ensures),
+      told_here c.loop-len.fillable (is_fillable_line (take len d)) (is_fillable (drop (same + (len + 1)) rest)) (is_fillable c.args.text.now) (is_fillable d) c.loop-len.invariant.3 next (c.in-Some-choice_of.ensures.fillable ∙ ap is_fillable_line c.line_at.ensures),
     )
 
 pub loop-len-preserved : goal.loop-len-preserved
@@ -58,5 +58,5 @@ loop-len-preserved c =
       c.loop-len.invariant.1,
       ap (λ (l : List ℕ). c.loop-len.out.items ++ l) (line_stays address port rest same len within first end stays)
           ∙ c.loop-len.invariant.2,
-      told_past c.loop-len.told (is_fillable_line (take len d)) (is_fillable (drop (same + (len + 1)) rest)) (is_fillable c.args.text.now) (is_fillable d) c.loop-len.invariant.3 next (c.in-None.ensures.told ∙ ap is_fillable_line c.line_at.ensures),
+      told_past c.loop-len.fillable (is_fillable_line (take len d)) (is_fillable (drop (same + (len + 1)) rest)) (is_fillable c.args.text.now) (is_fillable d) c.loop-len.invariant.3 next (c.in-None.ensures.fillable ∙ ap is_fillable_line c.line_at.ensures),
     )

@@ -8,7 +8,7 @@ invariant-loop-len l =
     (l.same ≤ length l.rest)
     × (length l.rest ≤ length l.text)
     × (l.out.items ++ (take l.same l.rest ++ filled_text l.address l.port (drop l.same l.rest)) ≡ l.fn.out.items ++ filled_text l.address l.port l.text)
-    × ((l.told || is_fillable (drop l.same l.rest)) ≡ is_fillable l.text)
+    × ((l.fillable || is_fillable (drop l.same l.rest)) ≡ is_fillable l.text)
 
 abbrev pub decreases-loop-len : goal.decreases-loop-len
 decreases-loop-len l = length l.rest - l.same

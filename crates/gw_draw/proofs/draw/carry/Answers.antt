@@ -8,7 +8,7 @@ f-requires g c = c.requires.accepts c.args.place _ c.requires.inside c.index-job
 pub returns : goal.returns
 returns g c = record {
   inside = c.requires.inside;
-  shown = _;
+  seen = _;
   shows = λ d. same_read c.args.jobs.now c.args.place d c.index-jobs-place.result c.requires.inside ∙ sym c.index-jobs-place.is;
   call = c.f.ensures;
 }

@@ -8,4 +8,4 @@ use Rattle.gw_foot.proofs.gather.add_actions.Given as goal
 
 -- the keys so far, and then those of the rest
 abbrev pub invariant-loop-sent : goal.invariant-loop-sent
-invariant-loop-sent l = (k : Key) → has (l.keys.items ++ all_gathered (maps_of l.tables) (paired_actions l.numbers_left l.slots_left (drop l.sent-index l.asked))) k ≡ has (l.initial.keys.items ++ all_gathered (maps_of l.tables) (paired_actions l.numbers l.slots l.asked)) k
+invariant-loop-sent l = (k : Key) → has (l.keys.items ++ all_gathered (maps_of l.tables) (paired_actions l.numbers_left l.slots_left (drop l.sent-index l.requested))) k ≡ has (l.initial.keys.items ++ all_gathered (maps_of l.tables) (paired_actions l.numbers l.slots l.requested)) k

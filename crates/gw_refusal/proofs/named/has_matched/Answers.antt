@@ -2,7 +2,7 @@ use Rattle.std.proofs.Common.{Option, sym, ap, ◌∙◌}
 use Rattle.std.specs.List.{filter}
 use Rattle.gw_base.specs.declared.ids.CtxNum.{CtxNum}
 use Rattle.gw_table.specs.Maps.{ctx, names, members_of}
-use Rattle.gw_refusal.specs.Asked.{matches, is_some_list}
+use Rattle.gw_refusal.specs.Requested.{matches, is_some_list}
 use Rattle.gw_refusal.specs.Targets.{is_free, those_in, matched}
 use Rattle.gw_refusal.proofs.Matching.{any_kept, any_of_kept}
 use Rattle.gw_refusal.proofs.named.has_matched.Goals as goal

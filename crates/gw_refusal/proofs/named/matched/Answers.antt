@@ -3,7 +3,7 @@ use Rattle.std.proofs.lemmas.Fn.{filter_same}
 use Rattle.std.specs.List.{filter}
 use Rattle.gw_base.specs.declared.ids.CtxNum.{CtxNum}
 use Rattle.gw_base.specs.declared.term_ref.TermRef.{TermRef}
-use Rattle.gw_refusal.specs.Asked.{matches}
+use Rattle.gw_refusal.specs.Requested.{matches}
 use Rattle.gw_refusal.specs.Targets.{matched, those_in, source}
 use Rattle.gw_refusal.proofs.Matching.{all_match}
 use Rattle.gw_refusal.proofs.named.matched.Goals as goal

@@ -8,8 +8,8 @@ returns-clause-keeps c = merge_keeps
 pub returns-clause-filled : goal.returns-clause-filled
 returns-clause-filled c = fills_keep
 
-pub returns-clause-told : goal.returns-clause-told
-returns-clause-told c = audits_kept
+pub returns-clause-read_back : goal.returns-clause-read_back
+returns-clause-read_back c = audits_kept
 
 pub returns-clause-placed : goal.returns-clause-placed
 returns-clause-placed c = placed_kept

@@ -10,7 +10,7 @@ use Rattle.gw_table.specs.Maps.{Maps, Outcome, ctx}
 use Rattle.gw_refusal.specs.declared.at.At.TheVariants.{Live}
 use Rattle.gw_reserve.specs.Owned.{OwnedAction}
 use Rattle.gw_tx.specs.Properties.{linked_names, refusal_of_links}
-use Rattle.gw_tx.specs.Told.{owned_action, progress}
+use Rattle.gw_tx.specs.LimitedText.{owned_action, progress}
 use Rattle.gw_tx.specs.Transactions.{unless_refused, in_context, action_in}
 use Rattle.gw_tx.proofs.actions.action_in.Goals as goal
 

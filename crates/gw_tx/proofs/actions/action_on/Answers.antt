@@ -16,7 +16,7 @@ use Rattle.gw_refusal.specs.declared.at.At.TheVariants.{Null, Live, Unmade, Each
 use Rattle.gw_table.specs.Parts.{Parted}
 use Rattle.gw_reserve.specs.Owned.{OwnedAction}
 use Rattle.gw_tx.specs.Properties.{is_chosen_or_each, ArePlain}
-use Rattle.gw_tx.specs.Told.{owned_action, progress}
+use Rattle.gw_tx.specs.LimitedText.{owned_action, progress}
 use Rattle.gw_tx.specs.Transactions.{carried_action, commands, action_for, action_on}
 use Rattle.gw_tx.proofs.HeldKeys.{in_null, in_live, in_unmade, in_each}
 use Rattle.gw_tx.proofs.Parts.{covers_in}

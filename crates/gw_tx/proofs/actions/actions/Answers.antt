@@ -11,7 +11,7 @@ use Rattle.gw_table.proofs.Folding.{rest_of}
 use Rattle.gw_cmd.proofs.Parted.{StaysPart}
 use Rattle.gw_reserve.specs.Owned.{OwnedAction, first_owned, later_owned, paired_action, paired_actions}
 use Rattle.gw_tx.specs.Footprints.{action_footprint, footprint_of, Covers}
-use Rattle.gw_tx.specs.Told.{progress}
+use Rattle.gw_tx.specs.LimitedText.{progress}
 use Rattle.gw_tx.specs.Transactions.{action, actions}
 use Rattle.gw_tx.proofs.Facts.{commands_keep_part}
 use Rattle.gw_tx.proofs.FreeSlots.{AnySlot}

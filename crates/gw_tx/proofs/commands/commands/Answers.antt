@@ -5,7 +5,7 @@ use Rattle.gw_reply.specs.Replies.{command_reply_text}
 use Rattle.gw_table.proofs.Folding.{rest_of}
 use Rattle.gw_refusal.specs.declared.at.At.{At}
 use Rattle.gw_reserve.specs.Owned.{paired_commands}
-use Rattle.gw_tx.specs.declared.told.Progress.{Progress}
+use Rattle.gw_tx.specs.declared.limited_text.Progress.{Progress}
 use Rattle.gw_tx.specs.Footprints.{list_keys, Covers}
 use Rattle.gw_tx.specs.Transactions.{commands}
 use Rattle.gw_reply.specs.declared.reply.CommandReply.{CommandReply}

@@ -8,7 +8,7 @@ use Rattle.gw_reply.specs.declared.reply.ActionReply.{ActionReply}
 use Rattle.gw_reply.specs.declared.reply.CommandReply.{CommandReply}
 use Rattle.gw_reply.specs.declared.writer.ReplyWriter.{ReplyWriter}
 use Rattle.gw_reserve.specs.Owned.{paired_commands}
-use Rattle.gw_tx.specs.Told.{progress}
+use Rattle.gw_tx.specs.LimitedText.{progress}
 use Rattle.gw_tx.specs.Transactions.{commands, replied}
 use Rattle.gw_tx.proofs.commands.commands_in.Goals as goal
 

@@ -9,7 +9,7 @@ use Rattle.gw_reply.specs.ContextParts.{context_part_text}
 use Rattle.gw_reply.specs.Writers.{inside, written_behind}
 use Rattle.gw_reply.specs.declared.context_parts.ContextPart.{ContextPart}
 use Rattle.gw_table.specs.Maps.{ctx}
-use Rattle.gw_tx.specs.Properties.{is_audit, is_nothing, items_of, kind_in, at_least_priority, item_parts, reply_items, context_parts_if}
+use Rattle.gw_tx.specs.Properties.{is_audit, is_nothing, items_of, kind_in, minimum_priority, item_parts, reply_items, context_parts_if}
 use Rattle.gw_tx.proofs.context_parts.context_parts_if.Goals as goal
 
 is_false : (b : Bool) → not b ≡ true → b ≡ false
@@ -21,7 +21,7 @@ no_part : (a : Action) (o : Option ContextRecord) → is_nothing a.commands ≡ 
 unfolding reply_items
 no_part a None some none = refl
 no_part a (Some c) some none =
-    let parts : Bool → Bool → List ContextPart = λ audit nothing. at_least_priority c nothing (flat_map (item_parts c) (if audit then items_of a.props else if nothing then flat_map kind_in a.props else [])) in
+    let parts : Bool → Bool → List ContextPart = λ audit nothing. minimum_priority c nothing (flat_map (item_parts c) (if audit then items_of a.props else if nothing then flat_map kind_in a.props else [])) in
     ap (λ (b : Bool). parts b (is_nothing a.commands)) none ∙ ap (λ (b : Bool). parts false b) some
 
 pub returns-then-has_no_part : goal.returns-then-has_no_part

@@ -13,9 +13,9 @@ use Rattle.gw_table.specs.Maps.{Maps, number}
 use Rattle.gw_table.specs.Parts.{Parted, PartKeys, holds}
 use Rattle.gw_table.proofs.Folding.{rest_of}
 use Rattle.gw_cmd.proofs.Parted.{StaysPart}
-use Rattle.gw_tx.specs.declared.told.Progress.{Progress}
+use Rattle.gw_tx.specs.declared.limited_text.Progress.{Progress}
 use Rattle.gw_tx.specs.Footprints.{list_keys}
-use Rattle.gw_tx.specs.Told.{owned_action, progress}
+use Rattle.gw_tx.specs.LimitedText.{owned_action, progress}
 use Rattle.gw_tx.specs.Transactions.{in_each}
 use Rattle.gw_tx.proofs.Facts.{commands_keep_part}
 use Rattle.gw_tx.proofs.FreeSlots.{AnySlot}
@@ -29,10 +29,10 @@ use Rattle.gw_tx.proofs.contexts.in_all.Goals.{then-stopped, else-stopped}
 pub loop-number-init : goal.loop-number-init
 loop-number-init c =
     let a = c.args in
-    let asked : List (Option ℕ × Command) = paired_commands a.task.now.slots.now a.task.now.sent.now.commands in
+    let requested : List (Option ℕ × Command) = paired_commands a.task.now.slots.now a.task.now.sent.now.commands in
     record {
       replies = none_yet (in_each a.task.now.rules.now (owned_action a.task.now)) action_reply_text a.writer false a.numbers.now a.draft.now.maps;
-      kept = starts a.draft.now a.task.now.slots.now (list_keys (Each (number 0)) asked a.draft.now.maps) (c.requires.covered (number 0)) c.requires.unused;
+      kept = starts a.draft.now a.task.now.slots.now (list_keys (Each (number 0)) requested a.draft.now.maps) (c.requires.covered (number 0)) c.requires.unused;
       keys = refl;
       prepared = c.requires.prepared;
     }

@@ -2,7 +2,7 @@ use Rattle.std.proofs.Common.{◌≡◌, drop}
 use Rattle.gw_cmd.proofs.Parted.{StaysPart}
 use Rattle.gw_cmd.specs.Prepared.{ArePrepared}
 use Rattle.gw_reply.specs.Replies.{action_reply_text}
-use Rattle.gw_tx.specs.Told.{owned_action}
+use Rattle.gw_tx.specs.LimitedText.{owned_action}
 use Rattle.gw_tx.specs.Transactions.{in_each, in_all}
 use Rattle.gw_tx.proofs.FreeSlots.{AnySlot}
 use Rattle.gw_tx.proofs.Kept.{With}

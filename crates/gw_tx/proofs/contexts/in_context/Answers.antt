@@ -5,7 +5,7 @@ use Rattle.gw_reply.specs.Replies.{action_reply_text}
 use Rattle.gw_reserve.specs.Owned.{paired_commands}
 use Rattle.gw_table.specs.Maps.{Maps, ctx}
 use Rattle.gw_tx.specs.Properties.{context_parts_if, set_properties}
-use Rattle.gw_tx.specs.Told.{progress}
+use Rattle.gw_tx.specs.LimitedText.{progress}
 use Rattle.gw_tx.specs.Transactions.{commands, replied}
 use Rattle.gw_tx.proofs.Parts.{covers_set, unused_set}
 use Rattle.gw_tx.proofs.contexts.in_context.Goals as goal

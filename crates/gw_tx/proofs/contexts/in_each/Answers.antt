@@ -13,7 +13,7 @@ use Rattle.gw_refusal.specs.declared.at.At.{At}
 use Rattle.gw_table.specs.declared.attempts.Attempts.{Attempts}
 use Rattle.gw_table.specs.Maps.{Maps, ctx}
 use Rattle.gw_tx.specs.Properties.{context_parts_if, set_properties}
-use Rattle.gw_tx.specs.Told.{progress}
+use Rattle.gw_tx.specs.LimitedText.{progress}
 use Rattle.gw_tx.specs.Transactions.{commands, replied}
 use Rattle.gw_tx.proofs.Parts.{covers_set, unused_set}
 use Rattle.gw_tx.proofs.contexts.in_each.Goals as goal

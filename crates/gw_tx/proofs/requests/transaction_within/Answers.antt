@@ -7,13 +7,13 @@ use Rattle.gw_reply.specs.declared.reply.TxReply.{TxReply}
 use Rattle.gw_table.specs.declared.attempts.Attempts.{Attempts}
 use Rattle.gw_table.specs.Maps.{Outcome}
 use Rattle.gw_reserve.specs.Owned.{paired_actions}
-use Rattle.gw_tx.specs.Told.{told_of, within, IsLimited}
+use Rattle.gw_tx.specs.LimitedText.{limited_text_of, within, IsLimited}
 use Rattle.gw_tx.proofs.Limits.{still_limited}
 use Rattle.gw_tx.specs.Transactions.{actions, paired_transaction}
 use Rattle.gw_tx.proofs.requests.transaction_within.Goals as goal
 
-pub told_of-requires : goal.told_of-requires
-told_of-requires c = subst IsLimited (sym c.in_ok-written.ensures.answer) (still_limited c.writer_within.result (actions c.args.rules.now (paired_actions c.as_slice.result.now c.as_slice-2.result.now c.as_slice-3.result.now) c.args.draft.now.maps).answer.answers c.writer_within.ensures.limited)
+pub limited_text_of-requires : goal.limited_text_of-requires
+limited_text_of-requires c = subst IsLimited (sym c.in_ok-written.ensures.answer) (still_limited c.writer_within.result (actions c.args.rules.now (paired_actions c.as_slice.result.now c.as_slice-2.result.now c.as_slice-3.result.now) c.args.draft.now.maps).answer.answers c.writer_within.ensures.limited)
 
 pub returns : goal.returns
 unfolding paired_transaction
@@ -27,7 +27,7 @@ returns c =
     let all : List ActionReply = (on c.as_slice.result.now c.as_slice-2.result.now c.as_slice-3.result.now).answer.answers in
     record {
       maps = c.in_ok-written.ensures.maps ∙ ap (λ (o : Outcome (Attempts Unit ActionReply)). o.maps) same;
-      answer = c.told_of.ensures ∙ ap (λ (t : ReplyWriter ActionReply). told_of t) c.in_ok-written.ensures.answer ∙ c.writer_within.ensures.written all
+      answer = c.limited_text_of.ensures ∙ ap (λ (t : ReplyWriter ActionReply). limited_text_of t) c.in_ok-written.ensures.answer ∙ c.writer_within.ensures.written all
           ∙ ap (λ (o : Outcome (Attempts Unit ActionReply)). within c.args.limit (reply o.answer.answers)) same;
       keys = c.in_ok-written.ensures.keys;
     }

@@ -3,23 +3,24 @@ use Rattle.std.specs.List.{list_any}
 use Rattle.std.specs.Prelude.{slice_get, slice_set}
 use Rattle.gw_reserve.specs.Owned.{AreFreeSlots}
 use Rattle.gw_table.specs.Maps.{Maps}
-use Rattle.gw_table.specs.declared.originals.Write.{Write}
-use Rattle.gw_table.specs.Originals.{keys_written, undone as taken}
+use Rattle.gw_table.specs.declared.undo_log.Write.{Write}
+use Rattle.gw_table.specs.UndoLog.{keys_written, undone as taken}
 use Rattle.gw_table.specs.Stored.{Stored, maps_of, AreReady, NoneIsOut}
 use Rattle.gw_table.specs.WellFormed.{AreWellFormed}
 use Rattle.gw_board.specs.Alone.{WasCarried, AreAsBegun}
 use Rattle.gw_board.specs.BoardView.{value_of, IsOnTheWay, IsKeptIn, NoneIsSpare}
-use Rattle.gw_board.specs.Boards.{Seen, asked_of, begun_board, core_of, AllClosed, unclosed}
-use Rattle.gw_board.specs.Carried.{Asked, done}
+use Rattle.gw_board.specs.Boards.{Seen, requested_in, begun_board, core_of, AllClosed, unclosed}
+use Rattle.gw_board.specs.Carried.{BurstRequest, done}
 use Rattle.gw_board.specs.Core.{Place, Closed, pending}
-use Rattle.gw_board.specs.Journal.{Original, led as led_to, undone}
+use Rattle.gw_board.specs.Journal.{UndoStep, led as led_to, undone}
 use Rattle.gw_board.specs.OpenJobs.{IsSameBurst}
 use Rattle.gw_board.specs.Results.{is_open, NothingIsOpen}
-use Rattle.gw_board.specs.Seats.{place_of, original_of_writes}
+use Rattle.gw_board.specs.BoardEntries.{place_of, undo_step_of_writes}
 use Rattle.gw_board.proofs.CarriedAlone.{with_alone, took_back, took_ready, led_back, well_here, unused_here, alone_fewer, alone_none, alone_closed, alone_same, alone_kept, alone_way}
 use Rattle.gw_board.proofs.KeptIn.{all_ready, begun_kept, none_out}
-use Rattle.gw_board.proofs.OnTheWay.{asked-pending, begun_way, gives_the_fold}
-use Rattle.gw_board.proofs.SeatFacts.{seat_inside, unclosed-pending, length-places, length-asked}
+use Rattle.gw_board.proofs.Linking.{linked_still}
+use Rattle.gw_board.proofs.OnTheWay.{requested-pending, begun_way, gives_the_fold}
+use Rattle.gw_board.proofs.BoardEntryFacts.{seat_inside, unclosed-pending, length-places, length-requested}
 use Rattle.gw_board.proofs.Spare.{swept_spare, alone_spare}
 use Rattle.gw_board.proofs.board.Board.carry_alone.Goals as goal
 use Rattle.gw_board.proofs.board.Board.carry_alone.Goals.{In-Ok-push, After-all_pending}
@@ -28,13 +29,13 @@ use Rattle.gw_board.proofs.board.Board.carry_alone.Goals.{In-Ok-push, After-all_
 none_here : (b now : Seen) → b ≡ now → NothingIsOpen (core_of now) → NothingIsOpen (core_of b)
 none_here b now e h = subst (λ (x : Seen). NothingIsOpen (core_of x)) (sym e) h
 
-pends_here : (b now : Seen) (i : ℕ) (a : Asked) → b ≡ now → slice_get now.places i ≡ Some (pending a) → slice_get b.places i ≡ Some (pending a)
+pends_here : (b now : Seen) (i : ℕ) (a : BurstRequest) → b ≡ now → slice_get now.places i ≡ Some (pending a) → slice_get b.places i ≡ Some (pending a)
 pends_here b now i a e h = ap (λ (x : Seen). slice_get x.places i) e ∙ h
 
 pub carry_in_place-requires-clause-whole : goal.carry_in_place-requires-clause-whole
 carry_in_place-requires-clause-whole c =
     let b : Seen = value_of c.self.inside in
-    subst (λ (s : Stored). AreWellFormed b.manner.rules.members (maps_of s)) (sym c.replace-tables.ensures.value)
+    subst (λ (s : Stored). AreWellFormed b.profile.rules.members (maps_of s)) (sym c.replace-tables.ensures.value)
     (well_here b c.self.invariant.on_the_way (none_here b c.args.self.now c.self.view_is c.requires.«open») c.args.place c.in-Some.task
     (pends_here b c.args.self.now c.args.place c.in-Some.task c.self.view_is c.in-Some.ensures))
 
@@ -42,7 +43,7 @@ pub carry_in_place-requires-clause-unused : goal.carry_in_place-requires-clause-
 carry_in_place-requires-clause-unused c =
     let b : Seen = value_of c.self.inside in
     subst (λ (s : Stored). AreFreeSlots (maps_of s) c.get.result.now.owned.slots) (sym c.replace-tables.ensures.value)
-    (subst (λ (x : Asked). AreFreeSlots b.maps x.owned.slots) (sym c.get.ensures)
+    (subst (λ (x : BurstRequest). AreFreeSlots b.maps x.owned.slots) (sym c.get.ensures)
     (unused_here b c.self.invariant.on_the_way (none_here b c.args.self.now c.self.view_is c.requires.«open») c.args.place c.in-Some.task
     (pends_here b c.args.self.now c.args.place c.in-Some.task c.self.view_is c.in-Some.ensures)))
 
@@ -56,7 +57,7 @@ pub carry_in_place-requires-clause-ready : goal.carry_in_place-requires-clause-r
 carry_in_place-requires-clause-ready c =
     let b : Seen = value_of c.self.inside in
     subst (AreReady (keys_written c.last_alone-earlier.result)) (sym c.replace-tables.ensures.value)
-    (took_ready b.originals c.last_alone-earlier.new.originals.items (original_of_writes c.last_alone-earlier.result) c.last_alone-earlier.ensures.last c.self.inside.tables c.self.invariant.kept.ready).1
+    (took_ready b.undo_log c.last_alone-earlier.new.undo_log.items (undo_step_of_writes c.last_alone-earlier.result) c.last_alone-earlier.ensures.last c.self.inside.tables c.self.invariant.kept.ready).1
 
 -- ---- after want of memory
 
@@ -66,10 +67,10 @@ put_all_back-requires-clause-here c = c.in-Err.ensures.err.here
 pub put_all_back-requires-clause-ready : goal.put_all_back-requires-clause-ready
 put_all_back-requires-clause-ready c =
     let b : Seen = value_of c.self.inside in
-    let after : List Original = c.last_alone-earlier.new.originals.items in
+    let after : List UndoStep = c.last_alone-earlier.new.undo_log.items in
     let was : AreAsBegun c.self.inside.tables c.last_alone-earlier.result c.in-Err.tables = subst (λ (s : Stored). AreAsBegun s c.last_alone-earlier.result c.in-Err.tables) c.replace-tables.ensures.value c.in-Err.ensures.err in
     all_ready after c.self.inside.tables c.in-Err.tables was.kept
-    (took_ready b.originals after (original_of_writes c.last_alone-earlier.result) c.last_alone-earlier.ensures.last c.self.inside.tables c.self.invariant.kept.ready).0
+    (took_ready b.undo_log after (undo_step_of_writes c.last_alone-earlier.result) c.last_alone-earlier.ensures.last c.self.inside.tables c.self.invariant.kept.ready).0
 
 module _ (c : After-all_pending) where
   abbrev before : Seen
@@ -79,7 +80,7 @@ module _ (c : After-all_pending) where
   back = c.put_all_back.new.tables
 
   abbrev left : Seen
-  left = record { manner = before.manner; start = before.start; maps = maps_of back; places = map place_of c.all_pending.new.seats.items; originals = c.put_all_back.new.originals.items }
+  left = record { profile = before.profile; start = before.start; maps = maps_of back; places = map place_of c.all_pending.new.board_entries.items; undo_log = c.put_all_back.new.undo_log.items }
 
   was_begun : AreAsBegun c.self.inside.tables c.last_alone-earlier.result c.in-Err.tables
   was_begun = subst (λ (s : Stored). AreAsBegun s c.last_alone-earlier.result c.in-Err.tables) c.replace-tables.ensures.value c.in-Err.ensures.err
@@ -87,60 +88,61 @@ module _ (c : After-all_pending) where
   maps_begun : maps_of back ≡ (maps_of before.start)
   maps_begun =
       c.put_all_back.ensures.maps
-      ∙ ap (undone c.last_alone-earlier.new.originals.items) was_begun.maps
-      ∙ took_back before.originals c.last_alone-earlier.new.originals.items (original_of_writes c.last_alone-earlier.result) c.last_alone-earlier.ensures.last before.maps
+      ∙ ap (undone c.last_alone-earlier.new.undo_log.items) was_begun.maps
+      ∙ took_back before.undo_log c.last_alone-earlier.new.undo_log.items (undo_step_of_writes c.last_alone-earlier.result) c.last_alone-earlier.ensures.last before.maps
       ∙ led_back before c.self.invariant.on_the_way (none_here before c.args.self.now c.self.view_is c.requires.«open») c.args.place c.in-Some.task
       (pends_here before c.args.self.now c.args.place c.in-Some.task c.self.view_is c.in-Some.ensures)
 
-  is_begun : left ≡ begun_board before.manner (asked_of before.places) before.start
-  is_begun = λ j. record { manner = before.manner; start = before.start; maps = maps_begun j; places = c.all_pending.ensures.places j; originals = c.put_all_back.ensures.none j }
+  is_begun : left ≡ begun_board before.profile (requested_in before.places) before.start
+  is_begun = λ j. record { profile = before.profile; start = before.start; maps = maps_begun j; places = c.all_pending.ensures.places j; undo_log = c.put_all_back.ensures.none j }
 
-  begun_again : IsOnTheWay (begun_board before.manner (asked_of before.places) before.start)
-  begun_again = begun_way before.manner (asked_of before.places) before.start c.self.invariant.on_the_way.begun.well c.self.invariant.on_the_way.begun.unused
+  begun_again : IsOnTheWay (begun_board before.profile (requested_in before.places) before.start)
+  begun_again = begun_way before.profile (requested_in before.places) before.start c.self.invariant.on_the_way.begun.well c.self.invariant.on_the_way.begun.unused
 
 pub invariant_of-self : goal.invariant_of-self
 invariant_of-self c =
-    let all : unclosed (map place_of c.all_pending.new.seats.items) ≡ length (asked_of (before c).places) = ap unclosed c.all_pending.ensures.places ∙ unclosed-pending (asked_of (before c).places) in
-    let asked : length (asked_of (before c).places) ≡ length (before c).places = length-asked (before c).places in
-    let places : length (before c).places ≡ length c.self.inside.seats.items = length-places c.self.inside.seats.items in
-    let none : length c.put_all_back.new.originals.items ≡ 0 = ap length c.put_all_back.ensures.none in
+    let all : unclosed (map place_of c.all_pending.new.board_entries.items) ≡ length (requested_in (before c).places) = ap unclosed c.all_pending.ensures.places ∙ unclosed-pending (requested_in (before c).places) in
+    let requested : length (requested_in (before c).places) ≡ length (before c).places = length-requested (before c).places in
+    let places : length (before c).places ≡ length c.self.inside.board_entries.items = length-places c.self.inside.board_entries.items in
+    let none : length c.put_all_back.new.undo_log.items ≡ 0 = ap length c.put_all_back.ensures.none in
     let room = c.self.invariant.room.all in
     let replies = c.self.invariant.room.replies in
     let len = c.all_pending.ensures.len in
     let taken = c.last_alone-earlier.ensures.capacity in
     let space = c.put_all_back.ensures.capacity in
-    let o = c.put_all_back.new.originals.ok.0 in
-    let s = c.self.inside.seats.ok.0 in
+    let o = c.put_all_back.new.undo_log.ok.0 in
+    let s = c.self.inside.board_entries.ok.0 in
     record {
       on_the_way = subst IsOnTheWay (sym (is_begun c)) (begun_again c);
-      kept = subst (IsKeptIn (back c)) (sym (is_begun c)) (begun_kept (before c).manner (asked_of (before c).places) (before c).start (back c) c.put_all_back.ensures.here);
-      room = record { originals = omega arith; all = omega arith; replies = omega arith; no_replies = c.self.invariant.room.no_replies };
-      spare = λ e. swept_spare c.self.inside.start.value (back c) c.put_all_back.new.originals.items (map place_of c.all_pending.new.seats.items) c.put_all_back.ensures.swept;
+      kept = subst (IsKeptIn (back c)) (sym (is_begun c)) (begun_kept (before c).profile (requested_in (before c).places) (before c).start (back c) c.put_all_back.ensures.here);
+      room = record { undo_log = omega arith; all = omega arith; replies = omega arith; no_replies = c.self.invariant.room.no_replies };
+      linked = linked_still (requested_in (map place_of c.self.inside.board_entries.items)) (requested_in (map place_of c.all_pending.new.board_entries.items)) c.self.inside.links.items c.all_pending.ensures.requested c.self.invariant.linked;
+      spare = λ e. swept_spare c.self.inside.start.value (back c) c.put_all_back.new.undo_log.items (map place_of c.all_pending.new.board_entries.items) c.put_all_back.ensures.swept;
     }
 
-none_pending : (asked : List Asked) → list_any (λ p. is_open p.standing) (map pending asked) ≡ false
+none_pending : (requested : List BurstRequest) → list_any (λ p. is_open p.standing) (map pending requested) ≡ false
 none_pending [] = refl
 none_pending (a ∷ more) = none_pending more
 
 pub returns-in-Err-clause-none : goal.returns-in-Err-clause-none
-returns-in-Err-clause-none c = subst (λ (x : Seen). NothingIsOpen (core_of x)) (sym (is_begun c)) (none_pending (asked_of (before c).places))
+returns-in-Err-clause-none c = subst (λ (x : Seen). NothingIsOpen (core_of x)) (sym (is_begun c)) (none_pending (requested_in (before c).places))
 
 pub returns-in-Err-clause-same : goal.returns-in-Err-clause-same
 returns-in-Err-clause-same c =
-    let same : IsSameBurst (before c) (left c) = record { manner = refl; start = refl; asked = ap asked_of c.all_pending.ensures.places ∙ asked-pending (asked_of (before c).places) } in
+    let same : IsSameBurst (before c) (left c) = record { profile = refl; start = refl; requested = ap requested_in c.all_pending.ensures.places ∙ requested-pending (requested_in (before c).places) } in
     subst (λ (x : Seen). IsSameBurst x (left c)) c.self.view_is same
 
 pub returns-in-Err-clause-outcome : goal.returns-in-Err-clause-outcome
 returns-in-Err-clause-outcome c = gives_the_fold (left c) (subst IsOnTheWay (sym (is_begun c)) (begun_again c))
 
 pub returns-in-Err-clause-err : goal.returns-in-Err-clause-err
-returns-in-Err-clause-err c = is_begun c ∙ ap (λ (x : Seen). begun_board x.manner (asked_of x.places) x.start) c.self.view_is
+returns-in-Err-clause-err c = is_begun c ∙ ap (λ (x : Seen). begun_board x.profile (requested_in x.places) x.start) c.self.view_is
 
 -- ---- with its result
 
 pub set_stage-requires : goal.set_stage-requires
 set_stage-requires c =
-    seat_inside c.self.inside.seats.items c.args.place (pending c.in-Some.task)
+    seat_inside c.self.inside.board_entries.items c.args.place (pending c.in-Some.task)
     (pends_here (value_of c.self.inside) c.args.self.now c.args.place c.in-Some.task c.self.view_is c.in-Some.ensures)
 
 pub unreachable-requires-in_default-push : goal.unreachable-requires-in_default-push
@@ -148,7 +150,7 @@ unreachable-requires-in_default-push c =
     let b : Seen = value_of c.self.inside in
     let fewer = alone_fewer b c.self.invariant.on_the_way (none_here b c.args.self.now c.self.view_is c.requires.«open») c.args.place c.in-Some.task
     (pends_here b c.args.self.now c.args.place c.in-Some.task c.self.view_is c.in-Some.ensures) in
-    let room = c.self.invariant.room.originals in
+    let room = c.self.invariant.room.undo_log in
     let taken = c.last_alone-earlier.ensures.len in
     let space = c.last_alone-earlier.ensures.capacity in
     let full = c.in_default-push.ensures.full in
@@ -164,7 +166,7 @@ module _ (c : In-Ok-push) where
   abbrev i : ℕ
   i = c.args.place
 
-  abbrev a : Asked
+  abbrev a : BurstRequest
   a = c.in-Some.task
 
   none : NothingIsOpen (core_of b)
@@ -179,44 +181,44 @@ module _ (c : In-Ok-push) where
   abbrev tables : Stored
   tables = c.in-Ok.left.tables
 
-  abbrev originals : List Write
-  originals = c.in-Ok.left.originals
+  abbrev undo_log : List Write
+  undo_log = c.in-Ok.left.undo_log
 
   abbrev earlier : List Write
   earlier = c.last_alone-earlier.result
 
   -- the journal before them
-  abbrev front : List Original
-  front = c.last_alone-earlier.new.originals.items
+  abbrev front : List UndoStep
+  front = c.last_alone-earlier.new.undo_log.items
 
-  abbrev last : Original
-  last = original_of_writes originals
+  abbrev last : UndoStep
+  last = undo_step_of_writes undo_log
 
-  was : WasCarried b.manner a c.self.inside.tables earlier tables originals c.in-Ok.left.text
-  was = subst (λ (x : Asked). WasCarried b.manner x c.self.inside.tables earlier tables originals c.in-Ok.left.text) c.get.ensures
-      (subst (λ (s : Stored). WasCarried b.manner c.get.result.now s earlier tables originals c.in-Ok.left.text) c.replace-tables.ensures.value c.in-Ok.ensures.ok)
+  was : WasCarried b.profile a c.self.inside.tables earlier tables undo_log c.in-Ok.left.text
+  was = subst (λ (x : BurstRequest). WasCarried b.profile x c.self.inside.tables earlier tables undo_log c.in-Ok.left.text) c.get.ensures
+      (subst (λ (s : Stored). WasCarried b.profile c.get.result.now s earlier tables undo_log c.in-Ok.left.text) c.replace-tables.ensures.value c.in-Ok.ensures.ok)
 
-  places_are : map place_of c.set_stage.new.seats.items ≡ (with_alone b i a front last).places
-  places_are = c.set_stage.ensures.places (pending a) pends ∙ (λ j. slice_set b.places i (record { asked = a; standing = Closed (was.reply j) }))
+  places_are : map place_of c.set_stage.new.board_entries.items ≡ (with_alone b i a front last).places
+  places_are = c.set_stage.ensures.places (pending a) pends ∙ (λ j. slice_set b.places i (record { requested = a; standing = Closed (was.reply j) }))
 
-  originals_are : c.push.new.self.items ≡ (with_alone b i a front last).originals
-  originals_are = c.in-Ok-push.ensures.items ∙ ap (λ (o : Original). front ++ o ∷ []) c.of_writes.ensures
+  originals_are : c.push.new.self.items ≡ (with_alone b i a front last).undo_log
+  originals_are = c.in-Ok-push.ensures.items ∙ ap (λ (o : UndoStep). front ++ o ∷ []) c.of_writes.ensures
 
   abbrev new : Seen
-  new = record { manner = b.manner; start = b.start; maps = maps_of tables; places = map place_of c.set_stage.new.seats.items; originals = c.push.new.self.items }
+  new = record { profile = b.profile; start = b.start; maps = maps_of tables; places = map place_of c.set_stage.new.board_entries.items; undo_log = c.push.new.self.items }
 
   is_new : new ≡ with_alone b i a front last
-  is_new = λ j. record { manner = b.manner; start = b.start; maps = was.maps j; places = places_are j; originals = originals_are j }
+  is_new = λ j. record { profile = b.profile; start = b.start; maps = was.maps j; places = places_are j; undo_log = originals_are j }
 
   -- where the run of places began
   abbrev begun_at_maps : Maps
   begun_at_maps = taken earlier b.maps
 
-  leads : led_to last (done b.manner a b.maps).maps ≡ begun_at_maps
+  leads : led_to last (done b.profile a b.maps).maps ≡ begun_at_maps
   leads = ap (led_to last) (sym was.maps) ∙ was.back
 
   led : undone front begun_at_maps ≡ (maps_of b.start)
-  led = took_back b.originals front (original_of_writes earlier) c.last_alone-earlier.ensures.last b.maps ∙ led_back b way none i a pends
+  led = took_back b.undo_log front (undo_step_of_writes earlier) c.last_alone-earlier.ensures.last b.maps ∙ led_back b way none i a pends
 
   new_way : IsOnTheWay new
   new_way = subst IsOnTheWay (sym is_new) (alone_way b way none i a pends first front last begun_at_maps leads led)
@@ -224,20 +226,20 @@ module _ (c : In-Ok-push) where
   new_kept : IsKeptIn tables new
   new_kept = subst (IsKeptIn tables) (sym is_new)
       (alone_kept b way none i a pends front last c.self.inside.tables tables
-      (took_ready b.originals front (original_of_writes earlier) c.last_alone-earlier.ensures.last c.self.inside.tables c.self.invariant.kept.ready).0 was.here was.kept was.ready)
+      (took_ready b.undo_log front (undo_step_of_writes earlier) c.last_alone-earlier.ensures.last c.self.inside.tables c.self.invariant.kept.ready).0 was.here was.kept was.ready)
 
-  new_spare : (earlier ≡ []) × (c.self.inside.sweeps_all ≡ false) → NoneIsSpare b.start tables c.push.new.self.items (map place_of c.set_stage.new.seats.items)
+  new_spare : (earlier ≡ []) × (c.self.inside.sweeps_all ≡ false) → NoneIsSpare b.start tables c.push.new.self.items (map place_of c.set_stage.new.board_entries.items)
   new_spare h =
-      subst (λ (l : List Original). NoneIsSpare b.start tables l (map place_of c.set_stage.new.seats.items)) (sym originals_are)
-      (alone_spare b none front earlier originals c.self.inside.tables tables c.last_alone-earlier.ensures.last h.0 (was.alone h.0) (was.back ∙ ap (λ (e : List Write). taken e b.maps) h.0) (c.self.invariant.spare h.1) (map place_of c.set_stage.new.seats.items))
+      subst (λ (l : List UndoStep). NoneIsSpare b.start tables l (map place_of c.set_stage.new.board_entries.items)) (sym originals_are)
+      (alone_spare b none front earlier undo_log c.self.inside.tables tables c.last_alone-earlier.ensures.last h.0 (was.alone h.0) (was.back ∙ ap (λ (e : List Write). taken e b.maps) h.0) (c.self.invariant.spare h.1) (map place_of c.set_stage.new.board_entries.items))
 
   fewer : suc (unclosed new.places) ≡ unclosed b.places
   fewer = ap (λ (l : List Place). suc (unclosed l)) places_are ∙ alone_fewer b way none i a pends
 
 pub invariant_of-self-2 : goal.invariant_of-self-2
 invariant_of-self-2 c =
-    let fewer : suc (unclosed (map place_of c.set_stage.new.seats.items)) ≡ unclosed (map place_of c.self.inside.seats.items) = fewer c in
-    let room = c.self.invariant.room.originals in
+    let fewer : suc (unclosed (map place_of c.set_stage.new.board_entries.items)) ≡ unclosed (map place_of c.self.inside.board_entries.items) = fewer c in
+    let room = c.self.invariant.room.undo_log in
     let all = c.self.invariant.room.all in
     let replies = c.self.invariant.room.replies in
     let taken = c.last_alone-earlier.ensures.len in
@@ -248,7 +250,8 @@ invariant_of-self-2 c =
     record {
       on_the_way = new_way c;
       kept = new_kept c;
-      room = record { originals = omega arith; all = omega arith; replies = omega arith; no_replies = c.self.invariant.room.no_replies };
+      room = record { undo_log = omega arith; all = omega arith; replies = omega arith; no_replies = c.self.invariant.room.no_replies };
+      linked = linked_still (requested_in (map place_of c.self.inside.board_entries.items)) (requested_in (map place_of c.set_stage.new.board_entries.items)) c.self.inside.links.items c.set_stage.ensures.requested c.self.invariant.linked;
       spare = λ e. new_spare c (c.continues-self-inside.ensures.none e, c.continues-self-inside.ensures.before e);
     }
 

@@ -2,29 +2,30 @@ use Rattle.std.proofs.Common.{◌≡◌, ◌≤◌, ℕ, true, false, not, List,
 use Rattle.std.specs.Option.{is_some}
 use Rattle.std.specs.Prelude.{◌&&◌}
 use Rattle.gw_table.specs.Maps.{Maps}
-use Rattle.gw_table.specs.declared.originals.Write.{Write}
-use Rattle.gw_table.specs.Originals.{keys_written, undone as taken}
+use Rattle.gw_table.specs.declared.undo_log.Write.{Write}
+use Rattle.gw_table.specs.UndoLog.{keys_written, undone as taken}
 use Rattle.gw_table.specs.Parts.{Parted}
 use Rattle.gw_table.specs.Stored.{Stored, maps_of, names_entry, AreReady, KeepReady, NoOtherReady, NoneIsOut}
 use Rattle.gw_board.specs.BoardView.{value_of, IsOnTheWay, IsKeptIn, NoneIsSpare}
-use Rattle.gw_board.specs.Boards.{Seen, asked_of, begun_board, core_of, AllClosed, GivesTheFold, unclosed}
-use Rattle.gw_board.specs.Carried.{Asked}
+use Rattle.gw_board.specs.Boards.{Seen, requested_in, begun_board, core_of, GivesTheFold, unclosed}
+use Rattle.gw_board.specs.Carried.{BurstRequest}
 use Rattle.gw_board.specs.Core.{Place, pending}
 use Rattle.gw_board.specs.Alone.{FindsFirst}
 use Rattle.gw_board.specs.Fitting.{Each}
 use Rattle.gw_board.specs.GoingOn.{MayGoOn}
-use Rattle.gw_board.specs.Journal.{Original, undone}
+use Rattle.gw_board.specs.Journal.{UndoStep, undone}
 use Rattle.gw_board.specs.OpenJobs.{IsSameBurst}
 use Rattle.gw_board.specs.Results.{NothingIsOpen}
-use Rattle.gw_board.specs.Seats.{place_of, original_of_writes}
+use Rattle.gw_board.specs.BoardEntries.{place_of, undo_step_of_writes}
 use Rattle.gw_board.proofs.Begun.{alone_since, kept_since, start_maps}
 use Rattle.gw_board.proofs.CarriedAlone.{took_back, took_ready}
 use Rattle.gw_board.proofs.Comes.{out_of_none}
 use Rattle.gw_board.proofs.GoingOn.{led_behind, led_from, none_left, none_pending, some_unclosed, with_journal}
 use Rattle.gw_board.proofs.KeptIn.{all_ready, begun_kept, none_out}
-use Rattle.gw_board.proofs.OnTheWay.{asked-pending, begun_way, gives_the_fold}
+use Rattle.gw_board.proofs.Linking.{linked_still}
+use Rattle.gw_board.proofs.OnTheWay.{requested-pending, begun_way, gives_the_fold}
 use Rattle.gw_board.proofs.Orders.{each_joined}
-use Rattle.gw_board.proofs.SeatFacts.{unclosed-pending, length-places, length-asked}
+use Rattle.gw_board.proofs.BoardEntryFacts.{unclosed-pending, length-places, length-requested}
 use Rattle.gw_board.proofs.Spare.{swept_spare, alone_spare}
 use Rattle.gw_board.proofs.board.Board.carry_rest.Goals as goal
 use Rattle.gw_board.proofs.board.Board.carry_rest.Given.{Over}
@@ -35,8 +36,8 @@ none_here : (b now : Seen) → b ≡ now → NothingIsOpen (core_of now) → Not
 none_here b now e h = subst (λ (x : Seen). NothingIsOpen (core_of x)) (sym e) h
 
 -- the draft begins on the way
-started : (b : Seen) → IsOnTheWay b → NothingIsOpen (core_of b) → (maps : Maps) → maps ≡ b.maps → MayGoOn b.manner b.start maps b.places
-started b w none maps e = subst (λ (m : Maps). MayGoOn b.manner b.start m b.places) (sym e) (record { originals = b.originals; way = w; none = none })
+started : (b : Seen) → IsOnTheWay b → NothingIsOpen (core_of b) → (maps : Maps) → maps ≡ b.maps → MayGoOn b.profile b.start maps b.places
+started b w none maps e = subst (λ (m : Maps). MayGoOn b.profile b.start m b.places) (sym e) (record { undo_log = b.undo_log; way = w; none = none })
 
 -- a place is not closed, so there is room for an original
 found_some : (places : List Place) (r : Option ℕ) → FindsFirst places r → is_some r ≡ true → 1 ≤ unclosed places
@@ -56,7 +57,7 @@ pub of_tables-draft-requires-clause-ready : goal.of_tables-draft-requires-clause
 of_tables-draft-requires-clause-ready g c =
     let b : Seen = value_of c.self.inside in
     subst (AreReady (keys_written c.last_alone-earlier.result)) (sym c.replace-tables.ensures.value)
-    (took_ready b.originals c.last_alone-earlier.new.originals.items (original_of_writes c.last_alone-earlier.result) c.last_alone-earlier.ensures.last c.self.inside.tables c.self.invariant.kept.ready).1
+    (took_ready b.undo_log c.last_alone-earlier.new.undo_log.items (undo_step_of_writes c.last_alone-earlier.result) c.last_alone-earlier.ensures.last c.self.inside.tables c.self.invariant.kept.ready).1
 
 pub carry_each-requires-clause-goes_on : goal.carry_each-requires-clause-goes_on
 carry_each-requires-clause-goes_on g c κs within =
@@ -69,12 +70,12 @@ carry_each-requires-clause-goes_on g c κs within =
 pub put_all_back-requires-clause-ready : goal.put_all_back-requires-clause-ready
 put_all_back-requires-clause-ready g c =
     let b : Seen = value_of c.self.inside in
-    let after : List Original = c.last_alone-earlier.new.originals.items in
+    let after : List UndoStep = c.last_alone-earlier.new.undo_log.items in
     let kept : KeepReady c.self.inside.tables c.undone.result =
     subst (λ (s : Stored). KeepReady s c.undone.result) c.replace-tables.ensures.value
     (kept_since c.replace-tables.result c.last_alone-earlier.result c.of_tables-draft.result c.carry_each.new.draft.keys c.of_tables-draft.ensures c.carry_each.ensures.keys c.undone.result c.undone.ensures.kept) in
     all_ready after c.self.inside.tables c.undone.result kept
-    (took_ready b.originals after (original_of_writes c.last_alone-earlier.result) c.last_alone-earlier.ensures.last c.self.inside.tables c.self.invariant.kept.ready).0
+    (took_ready b.undo_log after (undo_step_of_writes c.last_alone-earlier.result) c.last_alone-earlier.ensures.last c.self.inside.tables c.self.invariant.kept.ready).0
 
 module _ (g : Over) (c : After-all_pending g) where
   abbrev before : Seen
@@ -83,17 +84,17 @@ module _ (g : Over) (c : After-all_pending g) where
   abbrev earlier : List Write
   earlier = c.last_alone-earlier.result
 
-  abbrev after : List Original
-  after = c.last_alone-earlier.new.originals.items
+  abbrev after : List UndoStep
+  after = c.last_alone-earlier.new.undo_log.items
 
   abbrev back : Stored
   back = c.put_all_back.new.tables
 
   abbrev left : Seen
-  left = record { manner = before.manner; start = before.start; maps = maps_of back; places = map place_of c.all_pending.new.seats.items; originals = c.put_all_back.new.originals.items }
+  left = record { profile = before.profile; start = before.start; maps = maps_of back; places = map place_of c.all_pending.new.board_entries.items; undo_log = c.put_all_back.new.undo_log.items }
 
-  places_are : map place_of c.all_pending.new.seats.items ≡ map pending (asked_of before.places)
-  places_are = c.all_pending.ensures.places ∙ ap (λ (l : List Asked). map pending l) c.carry_each.ensures.asked
+  places_are : map place_of c.all_pending.new.board_entries.items ≡ map pending (requested_in before.places)
+  places_are = c.all_pending.ensures.places ∙ ap (λ (l : List BurstRequest). map pending l) c.carry_each.ensures.requested
 
   undone_maps : maps_of c.undone.result ≡ taken earlier before.maps
   undone_maps =
@@ -105,49 +106,50 @@ module _ (g : Over) (c : After-all_pending g) where
   maps_begun =
       c.put_all_back.ensures.maps
       ∙ ap (undone after) undone_maps
-      ∙ took_back before.originals after (original_of_writes earlier) c.last_alone-earlier.ensures.last before.maps
+      ∙ took_back before.undo_log after (undo_step_of_writes earlier) c.last_alone-earlier.ensures.last before.maps
       ∙ led_from before c.self.invariant.on_the_way (none_here before c.args.self.now c.self.view_is c.requires.«open»)
 
-  is_begun : left ≡ begun_board before.manner (asked_of before.places) before.start
-  is_begun = λ j. record { manner = before.manner; start = before.start; maps = maps_begun j; places = places_are j; originals = c.put_all_back.ensures.none j }
+  is_begun : left ≡ begun_board before.profile (requested_in before.places) before.start
+  is_begun = λ j. record { profile = before.profile; start = before.start; maps = maps_begun j; places = places_are j; undo_log = c.put_all_back.ensures.none j }
 
-  begun_again : IsOnTheWay (begun_board before.manner (asked_of before.places) before.start)
-  begun_again = begun_way before.manner (asked_of before.places) before.start c.self.invariant.on_the_way.begun.well c.self.invariant.on_the_way.begun.unused
+  begun_again : IsOnTheWay (begun_board before.profile (requested_in before.places) before.start)
+  begun_again = begun_way before.profile (requested_in before.places) before.start c.self.invariant.on_the_way.begun.well c.self.invariant.on_the_way.begun.unused
 
 pub invariant_of-self : goal.invariant_of-self
 invariant_of-self g c =
-    let all : unclosed (map place_of c.all_pending.new.seats.items) ≡ length (asked_of (before g c).places) = ap unclosed (places_are g c) ∙ unclosed-pending (asked_of (before g c).places) in
-    let asked : length (asked_of (before g c).places) ≡ length (before g c).places = length-asked (before g c).places in
-    let places : length (before g c).places ≡ length c.self.inside.seats.items = length-places c.self.inside.seats.items in
-    let none : length c.put_all_back.new.originals.items ≡ 0 = ap length c.put_all_back.ensures.none in
+    let all : unclosed (map place_of c.all_pending.new.board_entries.items) ≡ length (requested_in (before g c).places) = ap unclosed (places_are g c) ∙ unclosed-pending (requested_in (before g c).places) in
+    let requested : length (requested_in (before g c).places) ≡ length (before g c).places = length-requested (before g c).places in
+    let places : length (before g c).places ≡ length c.self.inside.board_entries.items = length-places c.self.inside.board_entries.items in
+    let none : length c.put_all_back.new.undo_log.items ≡ 0 = ap length c.put_all_back.ensures.none in
     let room = c.self.invariant.room.all in
     let replies = c.self.invariant.room.replies in
     let len = c.all_pending.ensures.len in
     let carried = c.carry_each.ensures.len in
     let taken = c.last_alone-earlier.ensures.capacity in
     let space = c.put_all_back.ensures.capacity in
-    let o = c.put_all_back.new.originals.ok.0 in
-    let s = c.self.inside.seats.ok.0 in
+    let o = c.put_all_back.new.undo_log.ok.0 in
+    let s = c.self.inside.board_entries.ok.0 in
     record {
       on_the_way = subst IsOnTheWay (sym (is_begun g c)) (begun_again g c);
-      kept = subst (IsKeptIn (back g c)) (sym (is_begun g c)) (begun_kept (before g c).manner (asked_of (before g c).places) (before g c).start (back g c) c.put_all_back.ensures.here);
-      room = record { originals = omega arith; all = omega arith; replies = omega arith; no_replies = c.self.invariant.room.no_replies };
-      spare = λ e. swept_spare c.self.inside.start.value (back g c) c.put_all_back.new.originals.items (map place_of c.all_pending.new.seats.items) c.put_all_back.ensures.swept;
+      kept = subst (IsKeptIn (back g c)) (sym (is_begun g c)) (begun_kept (before g c).profile (requested_in (before g c).places) (before g c).start (back g c) c.put_all_back.ensures.here);
+      room = record { undo_log = omega arith; all = omega arith; replies = omega arith; no_replies = c.self.invariant.room.no_replies };
+      linked = linked_still (requested_in (map place_of c.self.inside.board_entries.items)) (requested_in (map place_of c.all_pending.new.board_entries.items)) c.self.inside.links.items (c.all_pending.ensures.requested ∙ c.carry_each.ensures.requested) c.self.invariant.linked;
+      spare = λ e. swept_spare c.self.inside.start.value (back g c) c.put_all_back.new.undo_log.items (map place_of c.all_pending.new.board_entries.items) c.put_all_back.ensures.swept;
     }
 
 pub returns-in_default-clause-none : goal.returns-in_default-clause-none
-returns-in_default-clause-none g c = subst (λ (x : Seen). NothingIsOpen (core_of x)) (sym (is_begun g c)) (none_pending (asked_of (before g c).places))
+returns-in_default-clause-none g c = subst (λ (x : Seen). NothingIsOpen (core_of x)) (sym (is_begun g c)) (none_pending (requested_in (before g c).places))
 
 pub returns-in_default-clause-same : goal.returns-in_default-clause-same
 returns-in_default-clause-same g c =
-    let same : IsSameBurst (before g c) (left g c) = record { manner = refl; start = refl; asked = ap asked_of (places_are g c) ∙ asked-pending (asked_of (before g c).places) } in
+    let same : IsSameBurst (before g c) (left g c) = record { profile = refl; start = refl; requested = ap requested_in (places_are g c) ∙ requested-pending (requested_in (before g c).places) } in
     subst (λ (x : Seen). IsSameBurst x (left g c)) c.self.view_is same
 
 pub returns-in_default-clause-outcome : goal.returns-in_default-clause-outcome
 returns-in_default-clause-outcome g c = gives_the_fold (left g c) (subst IsOnTheWay (sym (is_begun g c)) (begun_again g c))
 
 pub returns-in_default-clause-err : goal.returns-in_default-clause-err
-returns-in_default-clause-err g c = is_begun g c ∙ ap (λ (x : Seen). begun_board x.manner (asked_of x.places) x.start) c.self.view_is
+returns-in_default-clause-err g c = is_begun g c ∙ ap (λ (x : Seen). begun_board x.profile (requested_in x.places) x.start) c.self.view_is
 
 -- ---- with all replies
 
@@ -156,7 +158,7 @@ unreachable-requires g c =
     let some : 1 ≤ unclosed (value_of c.self.inside).places =
     subst (λ (x : Seen). 1 ≤ unclosed x.places) (sym c.self.view_is)
     (found_some c.args.self.now.places c.first_unclosed.result c.first_unclosed.ensures.first (c.is_none.ensures ∙ ap (λ b. not b) c.if-is_none.false)) in
-    let room = c.self.invariant.room.originals in
+    let room = c.self.invariant.room.undo_log in
     let taken = c.last_alone-earlier.ensures.len in
     let space = c.last_alone-earlier.ensures.capacity in
     let full = c.in_default-push.ensures.full in
@@ -187,23 +189,23 @@ module _ (g : Over) (c : In-Ok-push g) where
   begun_with = c.last_alone-earlier.result
 
   -- the journal before what was found
-  abbrev front : List Original
-  front = c.last_alone-earlier.new.originals.items
+  abbrev front : List UndoStep
+  front = c.last_alone-earlier.new.undo_log.items
 
-  abbrev last : Original
-  last = original_of_writes found
+  abbrev last : UndoStep
+  last = undo_step_of_writes found
 
   abbrev places : List Place
-  places = map place_of c.carry_each.new.seats.items
+  places = map place_of c.carry_each.new.board_entries.items
 
   abbrev maps : Maps
   maps = c.carry_each.new.draft.maps
 
-  went : MayGoOn b.manner b.start maps places
+  went : MayGoOn b.profile b.start maps places
   went = c.in-Ok.ensures.goes_on b.start (started b way none c.of_tables-draft.result.maps (ap (λ (p : Parted). p.maps) c.of_tables-draft.ensures ∙ ap (λ (s : Stored). maps_of s) c.replace-tables.ensures.value))
 
   originals_are : c.push.new.self.items ≡ front ++ last ∷ []
-  originals_are = c.in-Ok-push.ensures.items ∙ ap (λ (o : Original). front ++ o ∷ []) c.of_writes.ensures
+  originals_are = c.in-Ok-push.ensures.items ∙ ap (λ (o : UndoStep). front ++ o ∷ []) c.of_writes.ensures
 
   maps_are : maps_of tables ≡ maps
   maps_are = c.into_tables-tables.ensures.maps
@@ -216,16 +218,16 @@ module _ (g : Over) (c : In-Ok-push g) where
       ∙ ap (λ (s : Stored). taken begun_with (maps_of s)) c.replace-tables.ensures.value
 
   led : undone front (taken begun_with b.maps) ≡ (maps_of b.start)
-  led = took_back b.originals front (original_of_writes begun_with) c.last_alone-earlier.ensures.last b.maps ∙ led_from b way none
+  led = took_back b.undo_log front (undo_step_of_writes begun_with) c.last_alone-earlier.ensures.last b.maps ∙ led_from b way none
 
   abbrev new : Seen
-  new = record { manner = b.manner; start = b.start; maps = maps_of tables; places = places; originals = c.push.new.self.items }
+  new = record { profile = b.profile; start = b.start; maps = maps_of tables; places = places; undo_log = c.push.new.self.items }
 
-  is_new : new ≡ record { manner = b.manner; start = b.start; maps = maps; places = places; originals = front ++ last ∷ [] }
-  is_new = λ j. record { manner = b.manner; start = b.start; maps = maps_are j; places = places; originals = originals_are j }
+  is_new : new ≡ record { profile = b.profile; start = b.start; maps = maps; places = places; undo_log = front ++ last ∷ [] }
+  is_new = λ j. record { profile = b.profile; start = b.start; maps = maps_are j; places = places; undo_log = originals_are j }
 
   new_way : IsOnTheWay new
-  new_way = subst IsOnTheWay (sym is_new) (with_journal b.manner b.start maps places went (front ++ last ∷ []) (led_behind front last maps (taken begun_with b.maps) (maps_of b.start) leads led))
+  new_way = subst IsOnTheWay (sym is_new) (with_journal b.profile b.start maps places went (front ++ last ∷ []) (led_behind front last maps (taken begun_with b.maps) (maps_of b.start) leads led))
 
   kept : KeepReady c.self.inside.tables tables
   kept =
@@ -235,7 +237,7 @@ module _ (g : Over) (c : In-Ok-push g) where
   front_ready : Each (λ o. AreReady o.keys tables) front
   front_ready =
       all_ready front c.self.inside.tables tables kept
-      (took_ready b.originals front (original_of_writes begun_with) c.last_alone-earlier.ensures.last c.self.inside.tables c.self.invariant.kept.ready).0
+      (took_ready b.undo_log front (undo_step_of_writes begun_with) c.last_alone-earlier.ensures.last c.self.inside.tables c.self.invariant.kept.ready).0
 
   new_kept : IsKeptIn tables new
   new_kept = record {
@@ -245,7 +247,7 @@ module _ (g : Over) (c : In-Ok-push g) where
 
   new_spare : (begun_with ≡ []) × (c.self.inside.sweeps_all ≡ false) → NoneIsSpare b.start tables c.push.new.self.items places
   new_spare h =
-      subst (λ (l : List Original). NoneIsSpare b.start tables l places) (sym originals_are)
+      subst (λ (l : List UndoStep). NoneIsSpare b.start tables l places) (sym originals_are)
       (alone_spare b none front begun_with found c.self.inside.tables tables c.last_alone-earlier.ensures.last h.0 written
       (ap (taken found) maps_are ∙ leads ∙ ap (λ (e : List Write). taken e b.maps) h.0) (c.self.invariant.spare h.1) places)
     where
@@ -256,9 +258,9 @@ module _ (g : Over) (c : In-Ok-push g) where
 
 pub invariant_of-self-2 : goal.invariant_of-self-2
 invariant_of-self-2 g c =
-    let all_closed : unclosed (map place_of c.carry_each.new.seats.items) ≡ 0 = none_left (places g c) c.in-Ok.ensures.closed in
-    let one : 1 ≤ unclosed (map place_of c.self.inside.seats.items) = some g c in
-    let room = c.self.invariant.room.originals in
+    let all_closed : unclosed (map place_of c.carry_each.new.board_entries.items) ≡ 0 = none_left (places g c) c.in-Ok.ensures.closed in
+    let one : 1 ≤ unclosed (map place_of c.self.inside.board_entries.items) = some g c in
+    let room = c.self.invariant.room.undo_log in
     let all = c.self.invariant.room.all in
     let replies = c.self.invariant.room.replies in
     let taken = c.last_alone-earlier.ensures.len in
@@ -269,7 +271,8 @@ invariant_of-self-2 g c =
     record {
       on_the_way = new_way g c;
       kept = new_kept g c;
-      room = record { originals = omega arith; all = omega arith; replies = omega arith; no_replies = c.self.invariant.room.no_replies };
+      room = record { undo_log = omega arith; all = omega arith; replies = omega arith; no_replies = c.self.invariant.room.no_replies };
+      linked = linked_still (requested_in (map place_of c.self.inside.board_entries.items)) (requested_in (map place_of c.carry_each.new.board_entries.items)) c.self.inside.links.items c.carry_each.ensures.requested c.self.invariant.linked;
       spare = λ e. new_spare g c (c.continues-self-inside.ensures.none e, c.continues-self-inside.ensures.before e);
     }
 

@@ -1,12 +1,12 @@
 use Rattle.std.proofs.Common.{◌≡◌, List, [], ◌∷◌, ◌++◌, refl, sym, ap, subst, ◌∙◌, arith}
 use Rattle.gw_board.specs.Boards.{Seen, Handed, Ended, HasOpen, after_end, unchanged}
-use Rattle.gw_board.specs.OpenJobs.{AreOpen}
-use Rattle.gw_board.proofs.SeatFacts.{nil_of}
-use Rattle.gw_board.proofs.WaveJobs.{last_open, was_unchanged, left_unchanged, none_open, nothing_left, same_itself, same_still}
+use Rattle.gw_board.specs.OpenJobs.{after_each, AreOpen}
+use Rattle.gw_board.proofs.BoardEntryFacts.{nil_of}
+use Rattle.gw_board.proofs.WaveJobs.{last_first, last_open, was_unchanged, left_unchanged, none_open, nothing_left, same_itself, same_still}
 use Rattle.gw_board.proofs.board.Board.close_unchanged.Goals as goal
 
 pub loop-job-init : goal.loop-job-init
-loop-job-init c = record { open_still = c.requires; left = refl; same = same_itself c.args.self.now }
+loop-job-init c = record { open_still = c.requires; board = refl; left = refl; same = same_itself c.args.self.now }
 
 pub close-requires : goal.close-requires
 close-requires c =
@@ -23,9 +23,19 @@ loop-job-preserved c =
     let now = was_unchanged b d c.pop.new.self.items c.in-Some.job opened is in
     record {
       open_still = now.open_still;
+      board = ap (λ (x : Seen). after_each unchanged x c.pop.new.self.items) is
+          ∙ sym (last_first unchanged b c.pop.new.self.items c.in-Some.job)
+          ∙ ap (after_each unchanged b) (sym c.in-Some.ensures.items)
+          ∙ c.loop-job.invariant.board;
       left = left_unchanged b d c.pop.new.self.items c.in-Some.job opened is ∙ c.loop-job.invariant.left;
       same = same_still c.args.self.now b d c.loop-job.invariant.same now.same;
     }
+
+pub returns-clause-board : goal.returns-clause-board
+returns-clause-board c =
+    let count = c.loop-job.jobs.ok.0 in
+    let zero = (nothing_left c.pop.result _ _ c.pop.ensures.cases c.in_default.not-Some).0 in
+    ap (after_each unchanged c.loop-job.self) (sym (nil_of c.loop-job.jobs.items (omega arith))) ∙ c.loop-job.invariant.board
 
 pub returns-clause-none : goal.returns-clause-none
 returns-clause-none c =

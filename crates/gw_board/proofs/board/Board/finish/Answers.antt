@@ -3,111 +3,111 @@ use Rattle.gw_board.specs.Texts.{Text}
 use Rattle.gw_table.specs.Maps.{Outcome}
 use Rattle.gw_table.specs.Stored.{maps_of, AreSwept, AreSweptAmong}
 use Rattle.gw_board.specs.BoardView.{value_of}
-use Rattle.gw_board.specs.Boards.{Seen, core_of, asked_of, AllClosed}
+use Rattle.gw_board.specs.Boards.{Seen, core_of, requested_in, AllClosed}
 use Rattle.gw_board.specs.Carried.{carried}
 use Rattle.gw_board.specs.Fitting.{Each}
-use Rattle.gw_board.specs.Journal.{Original}
+use Rattle.gw_board.specs.Journal.{UndoStep}
 use Rattle.gw_board.specs.Results.{AreClosed}
-use Rattle.gw_board.specs.Seats.{place_of}
-use Rattle.gw_board.specs.declared.seat.Seat.{Seat}
+use Rattle.gw_board.specs.BoardEntries.{place_of}
+use Rattle.gw_board.specs.declared.board_entry.BoardEntry.{BoardEntry}
 use Rattle.gw_board.proofs.Comes.{all_closed, closed_ones, out_of_none}
 use Rattle.gw_board.proofs.KeptIn.{none_out}
 use Rattle.gw_board.proofs.OnTheWay.{gives_the_fold}
-use Rattle.gw_board.proofs.SeatFacts.{closed_front, closed_reply, told_as, told_more, told_all, nil_of}
+use Rattle.gw_board.proofs.BoardEntryFacts.{closed_front, closed_reply, told_as, told_more, told_all, nil_of}
 use Rattle.gw_board.proofs.Spare.{finished}
 use Rattle.gw_board.proofs.board.Board.finish.Goals as goal
-use Rattle.gw_board.proofs.board.Board.finish.Goals.{After-drop-self-inside}
+use Rattle.gw_board.proofs.board.Board.finish.Goals.{After-drop-self-inside-2}
 
-pub loop-seat-init : goal.loop-seat-init
-loop-seat-init c =
-    let rest = c.into_iter-seat-iterator.result.rest in
-    let all : rest.items ≡ c.self.inside.seats.items = c.into_iter-seat-iterator.ensures.into_iter_gives.0 in
-    let count : length rest.items ≡ length c.self.inside.seats.items = ap length all in
+pub loop-board_entry-init : goal.loop-board_entry-init
+loop-board_entry-init c =
+    let rest = c.into_iter-board_entry-iterator.result.rest in
+    let all : rest.items ≡ c.self.inside.board_entries.items = c.into_iter-board_entry-iterator.ensures.into_iter_gives.0 in
+    let count : length rest.items ≡ length c.self.inside.board_entries.items = ap length all in
     let none : length c.self.inside.replies.items ≡ 0 = ap length c.self.invariant.room.no_replies in
     let room = c.self.invariant.room.replies in
     let n = c.self.inside.replies.ok.0 in
-    let m = c.self.inside.seats.ok.0 in
-    let closed : AllClosed (map place_of c.self.inside.seats.items) = subst (λ (x : Seen). AllClosed x.places) (sym c.self.view_is) c.requires in
+    let m = c.self.inside.board_entries.ok.0 in
+    let closed : AllClosed (map place_of c.self.inside.board_entries.items) = subst (λ (x : Seen). AllClosed x.places) (sym c.self.view_is) c.requires in
     record {
-      told = ap (λ (l : List Text). told_as l rest.items) c.self.invariant.room.no_replies;
-      closed = subst (λ (l : List Seat). AllClosed (map place_of l)) (sym all) closed;
+      limited_text = ap (λ (l : List Text). told_as l rest.items) c.self.invariant.room.no_replies;
+      closed = subst (λ (l : List BoardEntry). AllClosed (map place_of l)) (sym all) closed;
       room = omega arith;
     }
 
 pub unreachable-requires : goal.unreachable-requires
 unreachable-requires c =
-    closed_reply c.in-Some.seat.stage
-    (closed_front c.in-Some.seat c.next.new.self.rest.items (subst (λ (l : List Seat). AllClosed (map place_of l)) c.in-Some.ensures.steps.0 c.loop-seat.invariant.closed)).0
+    closed_reply c.in-Some.board_entry.stage
+    (closed_front c.in-Some.board_entry c.next.new.self.rest.items (subst (λ (l : List BoardEntry). AllClosed (map place_of l)) c.in-Some.ensures.steps.0 c.loop-board_entry.invariant.closed)).0
     c.in_default.not-Closed
 
-pub loop-seat-preserved : goal.loop-seat-preserved
-loop-seat-preserved c =
+pub loop-board_entry-preserved : goal.loop-board_entry-preserved
+loop-board_entry-preserved c =
     let split = c.in-Some.ensures.steps.0 in
-    let count : length c.loop-seat.seat-iterator.rest.items ≡ length (c.in-Some.seat ∷ c.next.new.self.rest.items) = ap length split in
+    let count : length c.loop-board_entry.board_entry-iterator.rest.items ≡ length (c.in-Some.board_entry ∷ c.next.new.self.rest.items) = ap length split in
     let more = c.in-Ok.ensures.len in
     let space = c.in-Ok.ensures.capacity in
-    let room = c.loop-seat.invariant.room in
+    let room = c.loop-board_entry.invariant.room in
     record {
-      told =
+      limited_text =
           ap (λ (l : List Text). told_as l c.next.new.self.rest.items) c.in-Ok.ensures.items
-          ∙ told_more c.loop-seat.replies.items c.in-Closed.reply c.in-Some.seat c.next.new.self.rest.items c.in-Closed.is
-          ∙ ap (told_as c.loop-seat.replies.items) (sym split)
-          ∙ c.loop-seat.invariant.told;
-      closed = (closed_front c.in-Some.seat c.next.new.self.rest.items (subst (λ (l : List Seat). AllClosed (map place_of l)) split c.loop-seat.invariant.closed)).1;
+          ∙ told_more c.loop-board_entry.replies.items c.in-Closed.reply c.in-Some.board_entry c.next.new.self.rest.items c.in-Closed.is
+          ∙ ap (told_as c.loop-board_entry.replies.items) (sym split)
+          ∙ c.loop-board_entry.invariant.limited_text;
+      closed = (closed_front c.in-Some.board_entry c.next.new.self.rest.items (subst (λ (l : List BoardEntry). AllClosed (map place_of l)) split c.loop-board_entry.invariant.closed)).1;
       room = omega arith;
     }
 
 pub unreachable-requires-in_default-push : goal.unreachable-requires-in_default-push
 unreachable-requires-in_default-push c =
-    let count : length c.loop-seat.seat-iterator.rest.items ≡ length (c.in-Some.seat ∷ c.next.new.self.rest.items) = ap length c.in-Some.ensures.steps.0 in
-    let room = c.loop-seat.invariant.room in
+    let count : length c.loop-board_entry.board_entry-iterator.rest.items ≡ length (c.in-Some.board_entry ∷ c.next.new.self.rest.items) = ap length c.in-Some.ensures.steps.0 in
+    let room = c.loop-board_entry.invariant.room in
     let full = c.in_default-push.ensures.full in
     omega arith
 
 -- no seat is left, so each is closed with its reply
-closed_now : (seats first rest : List Seat) (replies : List Text) → first ≡ seats → told_as replies rest ≡ told_as [] first → rest ≡ [] → AreClosed (map place_of seats) replies
-closed_now seats first rest replies e told none = ap (λ (l : List Seat). told_as [] l) (sym e) ∙ sym told ∙ ap (told_as replies) none ∙ told_all replies
+closed_now : (board_entries first rest : List BoardEntry) (replies : List Text) → first ≡ board_entries → told_as replies rest ≡ told_as [] first → rest ≡ [] → AreClosed (map place_of board_entries) replies
+closed_now board_entries first rest replies e limited_text none = ap (λ (l : List BoardEntry). told_as [] l) (sym e) ∙ sym limited_text ∙ ap (told_as replies) none ∙ told_all replies
 
 pub sweep_journal-requires : goal.sweep_journal-requires
 sweep_journal-requires c =
     let b : Seen = value_of c.self.inside in
-    let replies : List Text = c.loop-seat.replies.items in
-    let rest : List Seat = c.loop-seat.seat-iterator.rest.items in
-    let none : rest ≡ [] = nil_of rest (let n = c.in-None.ensures.steps.0 in let o = c.loop-seat.seat-iterator.rest.ok.0 in omega arith) in
-    let closed = closed_now c.self.inside.seats.items c.into_iter-seat-iterator.result.rest.items rest replies c.into_iter-seat-iterator.ensures.into_iter_gives.0 c.loop-seat.invariant.told none in
+    let replies : List Text = c.loop-board_entry.replies.items in
+    let rest : List BoardEntry = c.loop-board_entry.board_entry-iterator.rest.items in
+    let none : rest ≡ [] = nil_of rest (let n = c.in-None.ensures.steps.0 in let o = c.loop-board_entry.board_entry-iterator.rest.ok.0 in omega arith) in
+    let closed = closed_now c.self.inside.board_entries.items c.into_iter-board_entry-iterator.result.rest.items rest replies c.into_iter-board_entry-iterator.ensures.into_iter_gives.0 c.loop-board_entry.invariant.limited_text none in
     none_out b c.self.inside.tables c.self.invariant.kept (closed_ones b.places replies closed)
 
-module _ (c : After-drop-self-inside) where
+module _ (c : After-drop-self-inside-2) where
   abbrev b : Seen
   b = value_of c.self.inside
 
   abbrev replies : List Text
-  replies = c.loop-seat.replies.items
+  replies = c.loop-board_entry.replies.items
 
-  abbrev rest : List Seat
-  rest = c.loop-seat.seat-iterator.rest.items
+  abbrev rest : List BoardEntry
+  rest = c.loop-board_entry.board_entry-iterator.rest.items
 
   abbrev ended : Outcome (List Text)
   ended = record { maps = b.maps; answer = replies }
 
   are_closed : AreClosed b.places replies
   are_closed =
-      closed_now c.self.inside.seats.items c.into_iter-seat-iterator.result.rest.items rest replies c.into_iter-seat-iterator.ensures.into_iter_gives.0 c.loop-seat.invariant.told
-      (nil_of rest (let n = c.in-None.ensures.steps.0 in let o = c.loop-seat.seat-iterator.rest.ok.0 in omega arith))
+      closed_now c.self.inside.board_entries.items c.into_iter-board_entry-iterator.result.rest.items rest replies c.into_iter-board_entry-iterator.ensures.into_iter_gives.0 c.loop-board_entry.invariant.limited_text
+      (nil_of rest (let n = c.in-None.ensures.steps.0 in let o = c.loop-board_entry.board_entry-iterator.rest.ok.0 in omega arith))
 
-  comes_to : ended ≡ carried b.manner (asked_of b.places) (maps_of b.start)
-  comes_to = sym (all_closed b.manner (core_of b) replies are_closed) ∙ gives_the_fold b c.self.invariant.on_the_way
+  comes_to : ended ≡ carried b.profile (requested_in b.places) (maps_of b.start)
+  comes_to = sym (all_closed b.profile (core_of b) replies are_closed) ∙ gives_the_fold b c.self.invariant.on_the_way
 
 pub returns-clause-maps : goal.returns-clause-maps
-returns-clause-maps c = c.sweep_journal.ensures.maps ∙ ap (λ (o : Outcome (List Text)). o.maps) (comes_to c) ∙ ap (λ (x : Seen). (carried x.manner (asked_of x.places) (maps_of x.start)).maps) c.self.view_is
+returns-clause-maps c = c.sweep_journal.ensures.maps ∙ ap (λ (o : Outcome (List Text)). o.maps) (comes_to c) ∙ ap (λ (x : Seen). (carried x.profile (requested_in x.places) (maps_of x.start)).maps) c.self.view_is
 
 pub returns-clause-replies : goal.returns-clause-replies
-returns-clause-replies c = ap (λ (o : Outcome (List Text)). o.answer) (comes_to c) ∙ ap (λ (x : Seen). (carried x.manner (asked_of x.places) (maps_of x.start)).answer) c.self.view_is
+returns-clause-replies c = ap (λ (o : Outcome (List Text)). o.answer) (comes_to c) ∙ ap (λ (x : Seen). (carried x.profile (requested_in x.places) (maps_of x.start)).answer) c.self.view_is
 
 pub returns-clause-swept : goal.returns-clause-swept
 returns-clause-swept c = λ start.
-    let journal : c.deref.result.now ≡ (b c).originals = c.deref.ensures.value in
-    finished (b c).start c.self.inside.tables c.sweep_journal.new.tables (b c).originals (b c).places c.self.inside.sweeps_all c.sweep_journal.ensures.maps
+    let journal : c.deref.result.now ≡ (b c).undo_log = c.deref.ensures.value in
+    finished (b c).start c.self.inside.tables c.sweep_journal.new.tables (b c).undo_log (b c).places c.self.inside.sweeps_all c.sweep_journal.ensures.maps
     (out_of_none (b c).places (closed_ones (b c).places (replies c) (are_closed c))) c.sweep_journal.ensures.fewer c.sweep_journal.ensures.all
-    (subst (λ (l : List Original). Each (λ o. AreSweptAmong o.keys c.sweep_journal.new.tables) l) journal c.sweep_journal.ensures.swept) c.self.invariant.spare
+    (subst (λ (l : List UndoStep). Each (λ o. AreSweptAmong o.keys c.sweep_journal.new.tables) l) journal c.sweep_journal.ensures.swept) c.self.invariant.spare
     (subst (λ (x : Seen). AreSwept x.start) (sym c.self.view_is) start)

@@ -3,9 +3,9 @@ use Rattle.std.specs.Prelude.{slice_get}
 use Rattle.gw_board.specs.Alone.{is_unclosed_at}
 use Rattle.gw_board.specs.BoardView.{value_of}
 use Rattle.gw_board.specs.Boards.{Seen, AllClosed}
-use Rattle.gw_board.specs.Seats.{place_of}
+use Rattle.gw_board.specs.BoardEntries.{place_of}
 use Rattle.gw_board.proofs.CarriedAlone.{closed_here, unclosed_pends}
-use Rattle.gw_board.proofs.SeatFacts.{seat_place}
+use Rattle.gw_board.proofs.BoardEntryFacts.{seat_place}
 use Rattle.gw_board.proofs.board.Board.first_unclosed.Goals as goal
 
 pub returns-then-not-is_closed-clause-pends : goal.returns-then-not-is_closed-clause-pends
@@ -13,7 +13,7 @@ returns-then-not-is_closed-clause-pends c = λ none.
     let i : ℕ = c.loop-place.place in
     let below = c.loop-place-test.true in
     let count = c.len-place-end.ensures in
-    let here : slice_get (map place_of c.self.inside.seats.items) i ≡ Some (place_of c.index.result.now) = seat_place c.self.inside.seats.items i c.index.result.now (omega arith) c.index.ensures in
+    let here : slice_get (map place_of c.self.inside.board_entries.items) i ≡ Some (place_of c.index.result.now) = seat_place c.self.inside.board_entries.items i c.index.result.now (omega arith) c.index.ensures in
     unclosed_pends c.args.self.now.places i none
     (ap (λ (x : Seen). is_unclosed_at (slice_get x.places i)) (sym c.self.view_is)
     ∙ ap is_unclosed_at here
@@ -25,7 +25,7 @@ loop-place-preserved c =
     let i : ℕ = c.loop-place.place in
     let below = c.loop-place-test.true in
     let count = c.len-place-end.ensures in
-    let here : slice_get b.places i ≡ Some (place_of c.index.result.now) = seat_place c.self.inside.seats.items i c.index.result.now (omega arith) c.index.ensures in
+    let here : slice_get b.places i ≡ Some (place_of c.index.result.now) = seat_place c.self.inside.board_entries.items i c.index.result.now (omega arith) c.index.ensures in
     let before : AllClosed (take i b.places) = subst (λ (x : Seen). AllClosed (take i x.places)) (sym c.self.view_is) c.loop-place.invariant in
     subst (λ (x : Seen). AllClosed (take (i + 1) x.places)) c.self.view_is
     (subst (λ (n : ℕ). AllClosed (take n b.places)) (sym (add-one i))

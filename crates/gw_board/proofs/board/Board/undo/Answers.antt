@@ -22,4 +22,4 @@ returns-clause-maps c =
     let b : Seen = value_of c.self.inside in
     let none : NothingIsOpen (core_of b) = subst (λ (x : Seen). NothingIsOpen (core_of x)) (sym c.self.view_is) c.requires in
     let way = c.self.invariant.on_the_way in
-    c.put_all_back.ensures.maps ∙ ap (undone b.originals) (way.fits.maps ∙ cut_none (out b.places) way.fits.whole (out_of_none b.places none)) ∙ way.back ∙ ap (λ (x : Seen). (maps_of x.start)) c.self.view_is
+    c.put_all_back.ensures.maps ∙ ap (undone b.undo_log) (way.fits.maps ∙ cut_none (out b.places) way.fits.whole (out_of_none b.places none)) ∙ way.back ∙ ap (λ (x : Seen). (maps_of x.start)) c.self.view_is

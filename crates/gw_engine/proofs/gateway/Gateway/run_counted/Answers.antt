@@ -1,6 +1,6 @@
 use Rattle.std.proofs.Common.{◌≡◌, ℕ, ◌≤◌, true, List, sym, subst, ◌∙◌, rules}
 use Rattle.std.specs.List.{AllZip}
-use Rattle.gw_board.specs.declared.asked.Asked.{Asked}
+use Rattle.gw_board.specs.declared.requested.BurstRequest.{BurstRequest}
 use Rattle.gw_kept.specs.Changes.{changes_of}
 use Rattle.gw_engine.specs.declared.datagram.Datagram.{Datagram}
 use Rattle.gw_engine.specs.declared.reading.ReadDatagram.{ReadDatagram}
@@ -31,7 +31,7 @@ pub perform-requires-clause-new : goal.perform-requires-clause-new
 perform-requires-clause-new types c = λ lifetimes outlive.
     let g : GatewayValue = c.args.self.now in
     let messages : List ReadDatagram = c.as_slice.result.now in
-    let jobs : List Asked = c.in_ok-plan.plan.jobs in
+    let jobs : List BurstRequest = c.in_ok-plan.plan.jobs in
     let kept : IsKept g = subst IsKept c.self.view_is (c.self.invariant.well_formed, few_slots (value_of c.self.inside).settings.slots c.self.invariant.slots) in
     let read : AllZip IsReadAs c.args.burst.now messages = subst (λ (l : List ReadDatagram). AllZip IsReadAs c.args.burst.now l) (sym c.as_slice.ensures) c.in_ok-messages.ensures in
     let out : IsOutcome g messages (answers_of g.settings.mid g.state.kept (texts_of (kept_of g jobs)) c.in_ok-plan.plan.items.items) (done_by g.settings.rules jobs g.state.maps).maps c.in_ok-plan.plan.cursors (changes_of c.in_ok-plan.plan.turns (kept_of g jobs)) =
@@ -42,7 +42,7 @@ pub perform-requires-clause-fits : goal.perform-requires-clause-fits
 perform-requires-clause-fits types c = λ lifetimes outlive.
     let g : GatewayValue = c.args.self.now in
     let messages : List ReadDatagram = c.as_slice.result.now in
-    let jobs : List Asked = c.in_ok-plan.plan.jobs in
+    let jobs : List BurstRequest = c.in_ok-plan.plan.jobs in
     let kept : IsKept g = subst IsKept c.self.view_is (c.self.invariant.well_formed, few_slots (value_of c.self.inside).settings.slots c.self.invariant.slots) in
     let read : AllZip IsReadAs c.args.burst.now messages = subst (λ (l : List ReadDatagram). AllZip IsReadAs c.args.burst.now l) (sym c.as_slice.ensures) c.in_ok-messages.ensures in
     let out : IsOutcome g messages (answers_of g.settings.mid g.state.kept (texts_of (kept_of g jobs)) c.in_ok-plan.plan.items.items) (done_by g.settings.rules jobs g.state.maps).maps c.in_ok-plan.plan.cursors (changes_of c.in_ok-plan.plan.turns (kept_of g jobs)) =
@@ -53,7 +53,7 @@ pub returns-clause-ok : goal.returns-clause-ok
 returns-clause-ok types c =
     let g : GatewayValue = c.args.self.now in
     let messages : List ReadDatagram = c.as_slice.result.now in
-    let jobs : List Asked = c.in_ok-plan.plan.jobs in
+    let jobs : List BurstRequest = c.in_ok-plan.plan.jobs in
     let kept : IsKept g = subst IsKept c.self.view_is (c.self.invariant.well_formed, few_slots (value_of c.self.inside).settings.slots c.self.invariant.slots) in
     let read : AllZip IsReadAs c.args.burst.now messages = subst (λ (l : List ReadDatagram). AllZip IsReadAs c.args.burst.now l) (sym c.as_slice.ensures) c.in_ok-messages.ensures in
     let out : IsOutcome g messages (answers_of g.settings.mid g.state.kept (texts_of (kept_of g jobs)) c.in_ok-plan.plan.items.items) (done_by g.settings.rules jobs g.state.maps).maps c.in_ok-plan.plan.cursors (changes_of c.in_ok-plan.plan.turns (kept_of g jobs)) =
@@ -69,7 +69,7 @@ pub returns-clause-readable : goal.returns-clause-readable
 returns-clause-readable types c =
     let g : GatewayValue = c.args.self.now in
     let messages : List ReadDatagram = c.as_slice.result.now in
-    let jobs : List Asked = c.in_ok-plan.plan.jobs in
+    let jobs : List BurstRequest = c.in_ok-plan.plan.jobs in
     let kept : IsKept g = subst IsKept c.self.view_is (c.self.invariant.well_formed, few_slots (value_of c.self.inside).settings.slots c.self.invariant.slots) in
     let read : AllZip IsReadAs c.args.burst.now messages = subst (λ (l : List ReadDatagram). AllZip IsReadAs c.args.burst.now l) (sym c.as_slice.ensures) c.in_ok-messages.ensures in
     let out : IsOutcome g messages (answers_of g.settings.mid g.state.kept (texts_of (kept_of g jobs)) c.in_ok-plan.plan.items.items) (done_by g.settings.rules jobs g.state.maps).maps c.in_ok-plan.plan.cursors (changes_of c.in_ok-plan.plan.turns (kept_of g jobs)) =

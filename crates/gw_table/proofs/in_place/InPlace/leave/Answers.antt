@@ -1,13 +1,13 @@
 use Rattle.std.proofs.Common.{◌≡◌, List, ◌∷◌, [], ◌++◌, Option, Some, refl, ap, sym, ◌∙◌}
 use Rattle.gw_base.specs.declared.key.Key.TheVariants.{Ctx}
 use Rattle.gw_ctx.specs.Contexts.{ContextRecord, left}
-use Rattle.gw_table.specs.declared.originals.Write.{Write}
-use Rattle.gw_table.specs.declared.originals.Write.TheVariants.{OfCtx}
+use Rattle.gw_table.specs.declared.undo_log.Write.{Write}
+use Rattle.gw_table.specs.declared.undo_log.Write.TheVariants.{OfCtx}
 use Rattle.gw_table.specs.declared.place.Place.{Place}
 use Rattle.gw_table.specs.Joining.{leave_place}
 use Rattle.gw_table.specs.Maps.{ctx}
 use Rattle.gw_table.specs.Members.{unless_empty, without_member}
-use Rattle.gw_table.specs.Originals.{keys_written, before_all}
+use Rattle.gw_table.specs.UndoLog.{keys_written, before_all}
 use Rattle.gw_table.specs.Parts.{Parted}
 use Rattle.gw_table.specs.Stored.{Stored, placed, maps_of, put_ctx_place}
 use Rattle.gw_table.proofs.InPlace.{same_in_place, wrote_ctx, found_among, found_at}

@@ -1,7 +1,7 @@
 use Rattle.std.proofs.Common.{Result, Ok, Err, ap, ◌∙◌}
 use Rattle.std.specs.Result.{OnOk}
 use Rattle.gw_table.specs.Maps.{ctx}
-use Rattle.gw_table.specs.Originals.{before_all}
+use Rattle.gw_table.specs.UndoLog.{before_all}
 use Rattle.gw_table.specs.Parts.{Parted}
 use Rattle.gw_table.specs.Settings.{put_setting}
 use Rattle.gw_table.specs.Stored.{Stored, maps_of}

@@ -1,13 +1,13 @@
 use Rattle.std.proofs.Common.{◌≡◌, List, ◌∷◌, [], ◌++◌, Option, Some, refl, ap, sym, ◌∙◌}
 use Rattle.gw_base.specs.declared.key.Key.TheVariants.{Term}
-use Rattle.gw_table.specs.declared.originals.Write.{Write}
-use Rattle.gw_table.specs.declared.originals.Write.TheVariants.{OfTerm}
+use Rattle.gw_table.specs.declared.undo_log.Write.{Write}
+use Rattle.gw_table.specs.declared.undo_log.Write.TheVariants.{OfTerm}
 use Rattle.gw_term.specs.Record.{serviced}
 use Rattle.gw_term.specs.declared.record.Termination.{Termination}
 use Rattle.gw_table.specs.declared.place.Place.TheVariants.{Here}
 use Rattle.gw_table.specs.Maps.{term}
 use Rattle.gw_table.specs.Members.{put_service}
-use Rattle.gw_table.specs.Originals.{keys_written, before_all}
+use Rattle.gw_table.specs.UndoLog.{keys_written, before_all}
 use Rattle.gw_table.specs.Parts.{Parted}
 use Rattle.gw_table.specs.Stored.{Stored, maps_of, put_term_place, with_service}
 use Rattle.gw_table.proofs.InPlace.{same_in_place, wrote_term, served_again, found_among, found_at, maps-with_service}

@@ -1,9 +1,9 @@
 use Rattle.std.proofs.Common.{List, ◌∷◌, [], ◌++◌, ap, ◌∙◌}
 use Rattle.gw_base.specs.declared.key.Key.TheVariants.{Term}
-use Rattle.gw_table.specs.declared.originals.Write.{Write}
-use Rattle.gw_table.specs.declared.originals.Write.TheVariants.{OfTerm}
+use Rattle.gw_table.specs.declared.undo_log.Write.{Write}
+use Rattle.gw_table.specs.declared.undo_log.Write.TheVariants.{OfTerm}
 use Rattle.gw_table.specs.Maps.{term, put_term}
-use Rattle.gw_table.specs.Originals.{keys_written, before_all}
+use Rattle.gw_table.specs.UndoLog.{keys_written, before_all}
 use Rattle.gw_table.specs.Parts.{Parted}
 use Rattle.gw_table.specs.Stored.{Stored, placed, maps_of, put_term_place}
 use Rattle.gw_table.proofs.InPlace.{same_in_place, wrote_term, wrote_term_again, logged_before, stood_there}

@@ -1,11 +1,11 @@
 use Rattle.std.proofs.Common.{◌≡◌, List, ◌∷◌, [], ◌++◌, Option, None, Some, refl, ap, sym, ◌∙◌}
 use Rattle.gw_base.specs.declared.key.Key.TheVariants.{Ctx}
-use Rattle.gw_table.specs.declared.originals.Write.{Write}
-use Rattle.gw_table.specs.declared.originals.Write.TheVariants.{OfCtx}
+use Rattle.gw_table.specs.declared.undo_log.Write.{Write}
+use Rattle.gw_table.specs.declared.undo_log.Write.TheVariants.{OfCtx}
 use Rattle.gw_ctx.specs.Contexts.{ContextRecord}
 use Rattle.gw_table.specs.declared.place.Place.TheVariants.{Empty}
 use Rattle.gw_table.specs.Maps.{ctx, put_ctx}
-use Rattle.gw_table.specs.Originals.{keys_written, before_all}
+use Rattle.gw_table.specs.UndoLog.{keys_written, before_all}
 use Rattle.gw_table.specs.Parts.{Parted}
 use Rattle.gw_table.specs.Stored.{Stored, maps_of, put_ctx_place, without_ctx}
 use Rattle.gw_table.proofs.InPlace.{same_in_place, wrote_ctx, taken_again, found_among, found_at, maps-without_ctx}

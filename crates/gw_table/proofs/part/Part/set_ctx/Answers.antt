@@ -4,7 +4,7 @@ use Rattle.gw_table.specs.declared.cell.Cell.TheVariants.{OfCtx}
 use Rattle.gw_table.specs.Cells.{cell_ctx, IsFound}
 use Rattle.gw_table.specs.Maps.{ctx, put_ctx}
 use Rattle.gw_table.specs.Parts.{Parted}
-use Rattle.gw_table.specs.Stored.{shown}
+use Rattle.gw_table.specs.Stored.{visible}
 use Rattle.gw_table.proofs.PartWrites.{found_at, stood_ctx, ctx_set, maps_ctx_set}
 use Rattle.gw_table.proofs.part.Part.set_ctx.Goals as goal
 
@@ -18,7 +18,7 @@ invariant_of-self c =
 
 pub returns-clause-before : goal.returns-clause-before
 returns-clause-before c =
-    c.into_entry.ensures ∙ ap (λ p. shown (Some p)) (c.into_ctx.ensures ∙ ap (λ x. cell_ctx x) (c.replace.ensures.value ∙ c.index_mut.ensures.value))
+    c.into_entry.ensures ∙ ap (λ p. visible (Some p)) (c.into_ctx.ensures ∙ ap (λ x. cell_ctx x) (c.replace.ensures.value ∙ c.index_mut.ensures.value))
     ∙ stood_ctx c.self.inside.keys.items c.self.inside.cells.items c.in-Some.i c.self.invariant c.args.number c.index_mut.result.now (found c)
     ∙ ap (λ (p : Parted). ctx p.maps c.args.number) c.self.view_is
 

@@ -4,7 +4,7 @@ use Rattle.gw_table.specs.declared.cell.Cell.TheVariants.{OfTerm}
 use Rattle.gw_table.specs.Cells.{cell_term, IsFound}
 use Rattle.gw_table.specs.Maps.{term, put_term}
 use Rattle.gw_table.specs.Parts.{Parted}
-use Rattle.gw_table.specs.Stored.{shown}
+use Rattle.gw_table.specs.Stored.{visible}
 use Rattle.gw_table.proofs.PartWrites.{found_at, stood_term, term_set, maps_term_set}
 use Rattle.gw_table.proofs.part.Part.set_term.Goals as goal
 
@@ -18,7 +18,7 @@ invariant_of-self c =
 
 pub returns-clause-before : goal.returns-clause-before
 returns-clause-before c =
-    c.into_entry.ensures ∙ ap (λ p. shown (Some p)) (c.into_term.ensures ∙ ap (λ x. cell_term x) (c.replace.ensures.value ∙ c.index_mut.ensures.value))
+    c.into_entry.ensures ∙ ap (λ p. visible (Some p)) (c.into_term.ensures ∙ ap (λ x. cell_term x) (c.replace.ensures.value ∙ c.index_mut.ensures.value))
     ∙ stood_term c.self.inside.keys.items c.self.inside.cells.items c.in-Some.i c.self.invariant c.args.name.now c.index_mut.result.now (found c)
     ∙ ap (λ (p : Parted). term p.maps c.args.name.now) c.self.view_is
 

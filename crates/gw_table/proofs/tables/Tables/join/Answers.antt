@@ -11,11 +11,11 @@ use Rattle.gw_table.specs.declared.place.Place.TheVariants.{Here}
 use Rattle.gw_table.specs.Found.{IsFound}
 use Rattle.gw_table.specs.Joining.{joined_at}
 use Rattle.gw_table.specs.Maps.{ctx, members_of, context_of}
-use Rattle.gw_table.specs.Originals.{keys_written}
-use Rattle.gw_table.specs.Stored.{Stored, stored, shown, maps_of, put_ctx_place}
+use Rattle.gw_table.specs.UndoLog.{keys_written}
+use Rattle.gw_table.specs.Stored.{Stored, stored, visible, maps_of, put_ctx_place}
 use Rattle.gw_table.proofs.Exchanged.{ctx_written, ctx_seen}
 use Rattle.gw_table.proofs.Places.{ctx-maps_of, same_ctx_place}
-use Rattle.gw_table.proofs.Standing.{marked_still, marked-put_ctx_place}
+use Rattle.gw_table.proofs.Standing.{marked_still, in_use-put_ctx_place}
 use Rattle.gw_table.proofs.tables.Tables.join.Goals as goal
 
 -- ---- where there is a place
@@ -23,14 +23,14 @@ use Rattle.gw_table.proofs.tables.Tables.join.Goals as goal
 pub join-requires-clause-new : goal.join-requires-clause-new
 join-requires-clause-new c =
     ap (λ (o : Option ContextRecord). is_in c.args.name (members_of o))
-    (ap (λ o. shown o) (ap (λ o. option_copied_mut o) (sym c.in-Some.is) ∙ c.get_mut.ensures.value ∙ ctx_seen c.self.inside.terms.entries c.self.inside.contexts.entries c.args.self.now c.args.number c.self.view_is)
+    (ap (λ o. visible o) (ap (λ o. option_copied_mut o) (sym c.in-Some.is) ∙ c.get_mut.ensures.value ∙ ctx_seen c.self.inside.terms.entries c.self.inside.contexts.entries c.args.self.now c.args.number c.self.view_is)
     ∙ sym (ctx-maps_of c.args.self.now c.args.number))
     ∙ c.requires.new
 
 pub join-requires-clause-room : goal.join-requires-clause-room
 join-requires-clause-room c =
     subst (λ (o : Option ContextRecord). length (members_of o) < c.args.limit)
-    (sym (ap (λ o. shown o) (ap (λ o. option_copied_mut o) (sym c.in-Some.is) ∙ c.get_mut.ensures.value ∙ ctx_seen c.self.inside.terms.entries c.self.inside.contexts.entries c.args.self.now c.args.number c.self.view_is)
+    (sym (ap (λ o. visible o) (ap (λ o. option_copied_mut o) (sym c.in-Some.is) ∙ c.get_mut.ensures.value ∙ ctx_seen c.self.inside.terms.entries c.self.inside.contexts.entries c.args.self.now c.args.number c.self.view_is)
     ∙ sym (ctx-maps_of c.args.self.now c.args.number)))
     c.requires.room
 
@@ -65,7 +65,7 @@ invariant_of-self-in-Some c =
     let before : Stored = stored c.self.inside.terms.entries c.self.inside.contexts.entries in
     let new : Place ContextRecord = c.join.new.self in
     let after : Stored = stored c.self.inside.terms.entries (c.get_mut.follows.lender new).entries in
-    marked-put_ctx_place c.self.inside.numbers c.self.inside.slots c.set_number.new.numbers before after c.self.invariant c.args.number (joined_at c.args.name c.in-Some.row.now) true c.set_number.ensures refl
+    in_use-put_ctx_place c.self.inside.numbers c.self.inside.slots c.set_number.new.numbers before after c.self.invariant c.args.number (joined_at c.args.name c.in-Some.row.now) true c.set_number.ensures refl
     (ctx_written c.self.inside.terms.entries c.self.inside.contexts.entries (c.get_mut.follows.lender new).entries c.args.number new
     (c.get_mut.follows.holds new (ap (λ o. is_some o) (sym c.get_mut.ensures.value) ∙ ap (λ o. is_some (option_copied_mut o)) c.in-Some.is))
     ∙ ap (λ (p : Place ContextRecord). put_ctx_place before c.args.number p) c.in_ok-found.ensures.after)
@@ -73,7 +73,7 @@ invariant_of-self-in-Some c =
 pub returns-in-Some-clause-found : goal.returns-in-Some-clause-found
 returns-in-Some-clause-found c =
     subst (λ (o : Option ContextRecord). IsFound (keys_written c.args.writes.now) (Ctx c.args.number) o c.in_ok-found.found)
-    (ap (λ o. shown o) (ap (λ o. option_copied_mut o) (sym c.in-Some.is) ∙ c.get_mut.ensures.value ∙ ctx_seen c.self.inside.terms.entries c.self.inside.contexts.entries c.args.self.now c.args.number c.self.view_is)
+    (ap (λ o. visible o) (ap (λ o. option_copied_mut o) (sym c.in-Some.is) ∙ c.get_mut.ensures.value ∙ ctx_seen c.self.inside.terms.entries c.self.inside.contexts.entries c.args.self.now c.args.number c.self.view_is)
     ∙ sym (ctx-maps_of c.args.self.now c.args.number))
     c.in_ok-found.ensures.found
 
@@ -85,18 +85,18 @@ returns-in-Some-clause-after c =
     ctx_written c.self.inside.terms.entries c.self.inside.contexts.entries (c.get_mut.follows.lender new).entries c.args.number new
     (c.get_mut.follows.holds new (ap (λ o. is_some o) (sym c.get_mut.ensures.value) ∙ ap (λ o. is_some (option_copied_mut o)) c.in-Some.is))
     ∙ ap (λ (s : Stored). put_ctx_place s c.args.number new) c.self.view_is ∙ ap (λ (p : Place ContextRecord). put_ctx_place now c.args.number p) c.in_ok-found.ensures.after
-    ∙ ap (λ (o : Option ContextRecord). put_ctx_place now c.args.number (Here (joined c.args.name (context_of o)))) (ap (λ o. shown o) was ∙ sym (ctx-maps_of now c.args.number))
+    ∙ ap (λ (o : Option ContextRecord). put_ctx_place now c.args.number (Here (joined c.args.name (context_of o)))) (ap (λ o. visible o) was ∙ sym (ctx-maps_of now c.args.number))
 
 -- ---- where there is none
 
 pub returns-clause-found : goal.returns-clause-found
 returns-clause-found c =
-    ap (λ o. shown o) (ap (λ o. option_copied_mut o) (sym c.in_default.is) ∙ c.get_mut.ensures.value ∙ ctx_seen c.self.inside.terms.entries c.self.inside.contexts.entries c.args.self.now c.args.number c.self.view_is)
+    ap (λ o. visible o) (ap (λ o. option_copied_mut o) (sym c.in_default.is) ∙ c.get_mut.ensures.value ∙ ctx_seen c.self.inside.terms.entries c.self.inside.contexts.entries c.args.self.now c.args.number c.self.view_is)
     ∙ sym (ctx-maps_of c.args.self.now c.args.number)
 
 pub returns-clause-after : goal.returns-clause-after
 returns-clause-after c =
-    let nothing : None ≡ ctx (maps_of c.args.self.now) c.args.number = ap (λ o. shown o) (ap (λ o. option_copied_mut o) (sym c.in_default.is) ∙ c.get_mut.ensures.value ∙ ctx_seen c.self.inside.terms.entries c.self.inside.contexts.entries c.args.self.now c.args.number c.self.view_is)
+    let nothing : None ≡ ctx (maps_of c.args.self.now) c.args.number = ap (λ o. visible o) (ap (λ o. option_copied_mut o) (sym c.in_default.is) ∙ c.get_mut.ensures.value ∙ ctx_seen c.self.inside.terms.entries c.self.inside.contexts.entries c.args.self.now c.args.number c.self.view_is)
     ∙ sym (ctx-maps_of c.args.self.now c.args.number) in
     ctx_written c.self.inside.terms.entries c.get_mut.follows.lender-at-none.entries c.insert.new.self.entries c.args.number c.logged_in.result
     c.in_ok-insert.ensures.updates
@@ -108,7 +108,7 @@ returns-clause-after c =
 pub invariant_of-self-2 : goal.invariant_of-self-2
 invariant_of-self-2 c =
     let now : Stored = stored c.self.inside.terms.entries c.self.inside.contexts.entries in
-    marked-put_ctx_place c.self.inside.numbers c.self.inside.slots c.set_number-2.new.numbers now (stored c.self.inside.terms.entries c.insert.new.self.entries) c.self.invariant
+    in_use-put_ctx_place c.self.inside.numbers c.self.inside.slots c.set_number-2.new.numbers now (stored c.self.inside.terms.entries c.insert.new.self.entries) c.self.invariant
     c.args.number (Here c.in_ok-begun.field-0) true c.set_number-2.ensures refl
     (ctx_written c.self.inside.terms.entries c.get_mut.follows.lender-at-none.entries c.insert.new.self.entries c.args.number c.logged_in.result
     c.in_ok-insert.ensures.updates

@@ -9,25 +9,25 @@ use Rattle.gw_table.specs.declared.place.Place.{Place}
 use Rattle.gw_table.specs.Found.{IsFound}
 use Rattle.gw_table.specs.Joining.{leave_place}
 use Rattle.gw_table.specs.Maps.{ctx}
-use Rattle.gw_table.specs.Originals.{keys_written}
-use Rattle.gw_table.specs.Stored.{Stored, stored, shown, maps_of, put_ctx_place}
+use Rattle.gw_table.specs.UndoLog.{keys_written}
+use Rattle.gw_table.specs.Stored.{Stored, stored, visible, maps_of, put_ctx_place}
 use Rattle.gw_table.proofs.Exchanged.{ctx_written, ctx_seen}
 use Rattle.gw_table.proofs.LeftPlaces.{left_here}
 use Rattle.gw_table.proofs.Places.{ctx-maps_of, same_ctx_place}
-use Rattle.gw_table.proofs.Standing.{marked_still, marked-put_ctx_place}
+use Rattle.gw_table.proofs.Standing.{marked_still, in_use-put_ctx_place}
 use Rattle.gw_table.proofs.tables.Tables.leave.Goals as goal
 
 -- ---- where there is no place
 
 pub returns-in_default-clause-found : goal.returns-in_default-clause-found
 returns-in_default-clause-found c =
-    ap (λ o. shown (option_copied_mut o)) (sym c.in_default.is) ∙ ap (λ o. shown o) (c.get_mut.ensures.value ∙ ctx_seen c.self.inside.terms.entries c.self.inside.contexts.entries c.args.self.now c.args.number c.self.view_is)
+    ap (λ o. visible (option_copied_mut o)) (sym c.in_default.is) ∙ ap (λ o. visible o) (c.get_mut.ensures.value ∙ ctx_seen c.self.inside.terms.entries c.self.inside.contexts.entries c.args.self.now c.args.number c.self.view_is)
     ∙ sym (ctx-maps_of c.args.self.now c.args.number)
 
 pub returns-in_default-clause-after : goal.returns-in_default-clause-after
 returns-in_default-clause-after c =
-    let nothing : None ≡ ctx (maps_of c.args.self.now) c.args.number = ap (λ o. shown (option_copied_mut o)) (sym c.in_default.is)
-    ∙ ap (λ o. shown o) (c.get_mut.ensures.value ∙ ctx_seen c.self.inside.terms.entries c.self.inside.contexts.entries c.args.self.now c.args.number c.self.view_is)
+    let nothing : None ≡ ctx (maps_of c.args.self.now) c.args.number = ap (λ o. visible (option_copied_mut o)) (sym c.in_default.is)
+    ∙ ap (λ o. visible o) (c.get_mut.ensures.value ∙ ctx_seen c.self.inside.terms.entries c.self.inside.contexts.entries c.args.self.now c.args.number c.self.view_is)
     ∙ sym (ctx-maps_of c.args.self.now c.args.number) in
     ap (λ (m : Rowed ℕ (Place ContextRecord)). stored c.self.inside.terms.entries m.entries) c.get_mut.follows.holds-at-none ∙ c.self.view_is
     ∙ ap (λ (o : Option ContextRecord). leave_place c.args.name.now c.args.number c.args.self.now o) nothing
@@ -65,14 +65,14 @@ invariant_of-self-2 c =
     let before : Stored = stored c.self.inside.terms.entries c.self.inside.contexts.entries in
     let new : Place ContextRecord = c.leave.new.self in
     let after : Stored = stored c.self.inside.terms.entries (c.get_mut.follows.lender new).entries in
-    marked-put_ctx_place c.self.inside.numbers c.self.inside.slots c.set_number.new.numbers before after c.self.invariant c.args.number new c.is_here-stands.result c.set_number.ensures c.is_here-stands.ensures
+    in_use-put_ctx_place c.self.inside.numbers c.self.inside.slots c.set_number.new.numbers before after c.self.invariant c.args.number new c.is_here-stands.result c.set_number.ensures c.is_here-stands.ensures
     (ctx_written c.self.inside.terms.entries c.self.inside.contexts.entries (c.get_mut.follows.lender new).entries c.args.number new
     (c.get_mut.follows.holds new (ap (λ o. is_some o) (sym c.get_mut.ensures.value) ∙ ap (λ o. is_some (option_copied_mut o)) c.in-Some.is)))
 
 pub returns-clause-found : goal.returns-clause-found
 returns-clause-found c =
     subst (λ (o : Option ContextRecord). IsFound (keys_written c.args.writes.now) (Ctx c.args.number) o c.in_ok-found.found)
-    (ap (λ o. shown o) (ap (λ o. option_copied_mut o) (sym c.in-Some.is) ∙ c.get_mut.ensures.value ∙ ctx_seen c.self.inside.terms.entries c.self.inside.contexts.entries c.args.self.now c.args.number c.self.view_is)
+    (ap (λ o. visible o) (ap (λ o. option_copied_mut o) (sym c.in-Some.is) ∙ c.get_mut.ensures.value ∙ ctx_seen c.self.inside.terms.entries c.self.inside.contexts.entries c.args.self.now c.args.number c.self.view_is)
     ∙ sym (ctx-maps_of c.args.self.now c.args.number))
     c.in_ok-found.ensures.found
 
@@ -85,4 +85,4 @@ returns-clause-after c =
     (c.get_mut.follows.holds new (ap (λ o. is_some o) (sym c.get_mut.ensures.value) ∙ ap (λ o. is_some (option_copied_mut o)) c.in-Some.is))
     ∙ ap (λ (s : Stored). put_ctx_place s c.args.number new) c.self.view_is ∙ ap (λ (p : Place ContextRecord). put_ctx_place now c.args.number p) c.in_ok-found.ensures.after
     ∙ left_here c.args.name.now now c.args.number c.in-Some.row.now (sym was)
-    ∙ ap (λ (o : Option ContextRecord). leave_place c.args.name.now c.args.number now o) (ap (λ o. shown o) was ∙ sym (ctx-maps_of now c.args.number))
+    ∙ ap (λ (o : Option ContextRecord). leave_place c.args.name.now c.args.number now o) (ap (λ o. visible o) was ∙ sym (ctx-maps_of now c.args.number))

@@ -5,7 +5,7 @@ use Rattle.gw_table.specs.declared.place.Place.TheVariants.{Here}
 use Rattle.gw_table.specs.Stored.{Stored, stored, maps_of, put_term_place, AreSwept, NoneIsOut}
 use Rattle.gw_table.proofs.Exchanged.{term_written}
 use Rattle.gw_table.proofs.Places.{maps-put_term_place, in-put_term, swept-put_term}
-use Rattle.gw_table.proofs.Standing.{marked_still, marked-put_still}
+use Rattle.gw_table.proofs.Standing.{marked_still, in_use-put_still}
 use Rattle.std.proofs.Common.{Some}
 use Rattle.gw_table.specs.Maps.{put_term}
 use Rattle.gw_table.proofs.tables.Tables.provide.Goals as goal
@@ -31,4 +31,4 @@ invariant_of-self-2 c =
     let now : Stored = stored c.self.inside.terms.entries c.self.inside.contexts.entries in
     let new = term_written c.self.inside.terms.entries c.insert.new.self.entries c.self.inside.contexts.entries c.args.name c.of.result c.in_ok-insert.ensures.updates ∙ ap (λ p. put_term_place now c.args.name p) c.of.ensures in
     marked_still c.self.inside.numbers c.self.inside.slots (put_term (maps_of now) c.args.name (Some c.provisioned.result)) (maps_of (stored c.insert.new.self.entries c.self.inside.contexts.entries)) (ap (λ s. maps_of s) new ∙ maps-put_term_place now c.args.name (Here c.provisioned.result))
-    (marked-put_still c.self.inside.numbers c.self.inside.slots (maps_of now) c.args.name (Some c.provisioned.result) (λ _. refl) c.self.invariant)
+    (in_use-put_still c.self.inside.numbers c.self.inside.slots (maps_of now) c.args.name (Some c.provisioned.result) (λ _. refl) c.self.invariant)

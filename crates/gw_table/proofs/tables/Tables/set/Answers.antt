@@ -5,7 +5,7 @@ use Rattle.gw_ctx.specs.Contexts.{ContextRecord}
 use Rattle.gw_table.specs.declared.place.Place.{Place}
 use Rattle.gw_table.specs.Maps.{ctx}
 use Rattle.gw_table.specs.Settings.{set_place}
-use Rattle.gw_table.specs.Stored.{stored, shown, maps_of}
+use Rattle.gw_table.specs.Stored.{stored, visible, maps_of}
 use Rattle.gw_table.proofs.Exchanged.{ctx_seen}
 use Rattle.gw_table.proofs.Places.{ctx-maps_of}
 use Rattle.gw_table.proofs.Settings.{place_set, marks_set}
@@ -13,8 +13,8 @@ use Rattle.gw_table.proofs.tables.Tables.set.Goals as goal
 
 pub returns-in_default : goal.returns-in_default
 returns-in_default c =
-    let nothing : None ≡ ctx (maps_of c.args.self.now) c.args.number = ap (λ o. shown (option_copied_mut o)) (sym c.in_default.is)
-    ∙ ap (λ o. shown o) (c.get_mut.ensures.value ∙ ctx_seen c.self.inside.terms.entries c.self.inside.contexts.entries c.args.self.now c.args.number c.self.view_is)
+    let nothing : None ≡ ctx (maps_of c.args.self.now) c.args.number = ap (λ o. visible (option_copied_mut o)) (sym c.in_default.is)
+    ∙ ap (λ o. visible o) (c.get_mut.ensures.value ∙ ctx_seen c.self.inside.terms.entries c.self.inside.contexts.entries c.args.self.now c.args.number c.self.view_is)
     ∙ sym (ctx-maps_of c.args.self.now c.args.number) in
     ap (λ (m : Rowed ℕ (Place ContextRecord)). stored c.self.inside.terms.entries m.entries) c.get_mut.follows.holds-at-none ∙ c.self.view_is
     ∙ ap (λ (o : Option ContextRecord). set_place c.args.setting c.args.number c.args.self.now o) nothing

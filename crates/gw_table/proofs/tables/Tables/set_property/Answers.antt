@@ -7,10 +7,10 @@ use Rattle.std.specs.Option.{option_copied_mut}
 use Rattle.gw_ctx.specs.Contexts.{ContextRecord}
 use Rattle.gw_table.specs.declared.place.Place.{Place}
 use Rattle.gw_table.specs.Maps.{ctx}
-use Rattle.gw_table.specs.Marking.{AreMarked}
-use Rattle.gw_table.specs.Originals.{IsInPlace}
+use Rattle.gw_table.specs.Marking.{AreSet}
+use Rattle.gw_table.specs.UndoLog.{IsInPlace}
 use Rattle.gw_table.specs.Settings.{set_at, set_place}
-use Rattle.gw_table.specs.Stored.{Stored, stored, shown, maps_of, put_ctx_place}
+use Rattle.gw_table.specs.Stored.{Stored, stored, visible, maps_of, put_ctx_place}
 use Rattle.gw_table.proofs.Exchanged.{ctx_seen}
 use Rattle.gw_table.proofs.InPlace.{may_keep, set_one}
 use Rattle.gw_table.proofs.Places.{ctx-maps_of}
@@ -19,8 +19,8 @@ use Rattle.gw_table.proofs.tables.Tables.set_property.Goals as goal
 
 pub returns-in_default-clause-after : goal.returns-in_default-clause-after
 returns-in_default-clause-after c =
-    let nothing : None ≡ ctx (maps_of c.args.self.now) c.args.number = ap (λ o. shown (option_copied_mut o)) (sym c.in_default.is)
-    ∙ ap (λ o. shown o) (c.get_mut.ensures.value ∙ ctx_seen c.self.inside.terms.entries c.self.inside.contexts.entries c.args.self.now c.args.number c.self.view_is)
+    let nothing : None ≡ ctx (maps_of c.args.self.now) c.args.number = ap (λ o. visible (option_copied_mut o)) (sym c.in_default.is)
+    ∙ ap (λ o. visible o) (c.get_mut.ensures.value ∙ ctx_seen c.self.inside.terms.entries c.self.inside.contexts.entries c.args.self.now c.args.number c.self.view_is)
     ∙ sym (ctx-maps_of c.args.self.now c.args.number) in
     ap (λ (m : Rowed ℕ (Place ContextRecord)). stored c.self.inside.terms.entries m.entries) c.get_mut.follows.holds-at-none ∙ c.self.view_is
     ∙ ap (λ (o : Option ContextRecord). set_place c.args.setting c.args.number c.args.self.now o) nothing
@@ -42,7 +42,7 @@ module _ (c : goal.After-from_residual) where
 
 pub invariant_of-self-in_err-log_properties : goal.invariant_of-self-in_err-log_properties
 invariant_of-self-in_err-log_properties c =
-    subst (λ (s : Stored). AreMarked c.self.inside.numbers c.self.inside.slots (maps_of s)) (c.self.view_is ∙ sym (still c)) c.self.invariant
+    subst (λ (s : Stored). AreSet c.self.inside.numbers c.self.inside.slots (maps_of s)) (c.self.view_is ∙ sym (still c)) c.self.invariant
 
 pub returns-in_err-log_properties-clause-back : goal.returns-in_err-log_properties-clause-back
 returns-in_err-log_properties-clause-back c = λ start i.

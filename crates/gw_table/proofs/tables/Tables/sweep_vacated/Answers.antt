@@ -1,6 +1,6 @@
 use Rattle.std.proofs.Common.{List, subst, ◌∙◌}
-use Rattle.gw_table.specs.declared.originals.Write.{Write}
-use Rattle.gw_table.specs.Originals.{keys_written}
+use Rattle.gw_table.specs.declared.undo_log.Write.{Write}
+use Rattle.gw_table.specs.UndoLog.{keys_written}
 use Rattle.gw_table.specs.Stored.{AreSweptAmong}
 use Rattle.gw_table.proofs.Swept.{swept_among, fewer_swept, fewer_entries}
 use Rattle.gw_table.proofs.tables.Tables.sweep_vacated.Goals as goal
@@ -14,7 +14,7 @@ returns-then-are_many-clause-fewer c = fewer_entries c.args.self.now c.sweep.new
 
 pub returns-else-are_many-clause-swept : goal.returns-else-are_many-clause-swept
 returns-else-are_many-clause-swept c =
-    subst (λ (l : List Write). AreSweptAmong (keys_written l) c.sweep_writes.new.self) (c.deref.ensures.value ∙ c.originals.view_is)
+    subst (λ (l : List Write). AreSweptAmong (keys_written l) c.sweep_writes.new.self) (c.deref.ensures.value ∙ c.undo_log.view_is)
     (swept_among (keys_written c.deref.result.now) c.args.self.now c.sweep_writes.new.self c.sweep_writes.ensures)
 
 pub returns-else-are_many-clause-fewer : goal.returns-else-are_many-clause-fewer

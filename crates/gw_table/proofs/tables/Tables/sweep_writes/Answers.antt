@@ -2,8 +2,8 @@ use Rattle.std.proofs.Common.{ℕ, true, List, [], ◌∷◌, ◌++◌, take, sy
 use Rattle.std.proofs.lemmas.List.{take_more}
 use Rattle.gw_base.specs.declared.key.Key.{Key}
 use Rattle.gw_base.proofs.KeyTests.{same-itself}
-use Rattle.gw_table.specs.declared.originals.Write.{Write}
-use Rattle.gw_table.specs.Originals.{key_written, keys_written}
+use Rattle.gw_table.specs.declared.undo_log.Write.{Write}
+use Rattle.gw_table.specs.UndoLog.{key_written, keys_written}
 use Rattle.gw_table.specs.Stored.{WereSwept}
 use Rattle.gw_table.proofs.Swept.{swept_more}
 use Rattle.gw_table.proofs.Undone.{keys_more, one_of_them}

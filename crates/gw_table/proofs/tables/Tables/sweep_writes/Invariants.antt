@@ -1,5 +1,5 @@
 use Rattle.std.proofs.Common.{take}
-use Rattle.gw_table.specs.Originals.{keys_written}
+use Rattle.gw_table.specs.UndoLog.{keys_written}
 use Rattle.gw_table.specs.Stored.{WereSwept}
 use Rattle.gw_table.proofs.tables.Tables.sweep_writes.Given as goal
 

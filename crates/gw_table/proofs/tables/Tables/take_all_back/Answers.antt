@@ -1,8 +1,8 @@
 use Rattle.std.proofs.Common.{◌≡◌, true, List, ap, sym, ◌∙◌}
 use Rattle.gw_base.specs.declared.key.Key.{Key}
 use Rattle.gw_base.specs.Keys.{has}
-use Rattle.gw_table.specs.declared.originals.Write.{Write}
-use Rattle.gw_table.specs.Originals.{key_written, keys_written, undone}
+use Rattle.gw_table.specs.declared.undo_log.Write.{Write}
+use Rattle.gw_table.specs.UndoLog.{key_written, keys_written, undone}
 use Rattle.gw_table.specs.Stored.{maps_of}
 use Rattle.gw_table.proofs.Undone.{undone_more, last_written, written_before}
 use Rattle.gw_table.proofs.tables.Tables.take_all_back.Goals as goal

@@ -1,5 +1,5 @@
 use Rattle.std.proofs.Common.{◌≡◌, vec_len}
-use Rattle.gw_table.specs.Originals.{keys_written, undone}
+use Rattle.gw_table.specs.UndoLog.{keys_written, undone}
 use Rattle.gw_table.specs.Stored.{maps_of, AreReady, AreIn, AreAsReady, AreAsOut}
 use Rattle.gw_table.proofs.tables.Tables.take_all_back.Given as goal
 

@@ -1,8 +1,8 @@
 use Rattle.std.proofs.Common.{ap, sym, ◌∙◌}
-use Rattle.gw_table.specs.declared.originals.Write.{Write}
+use Rattle.gw_table.specs.declared.undo_log.Write.{Write}
 use Rattle.gw_table.specs.declared.setting.Setting.TheVariants.{Both}
 use Rattle.gw_table.specs.Maps.{ctx, put_term, put_ctx}
-use Rattle.gw_table.specs.Originals.{key_written, without_write}
+use Rattle.gw_table.specs.UndoLog.{key_written, without_write}
 use Rattle.gw_table.specs.Stored.{Stored, placed, maps_of, is_ready, is_out, put_term_place, put_ctx_place}
 use Rattle.gw_table.proofs.Places.{maps-put_term_place, maps-put_ctx_place, shown_placed, placed_here, ready-put_term, ready-put_ctx, out-put_term, out-put_ctx}
 use Rattle.gw_table.proofs.Settings.{maps-set_place, ready-set_place, out-set_place}

@@ -8,25 +8,25 @@ use Rattle.gw_table.proofs.Celled.{written_back}
 use Rattle.gw_table.proofs.Moved.{maps_left, maps_part, packed_full}
 use Rattle.gw_table.proofs.tables.Tables.take_out.Goals as goal
 
-abbrev before : (c : goal.After-cells-2-1) → Stored
+abbrev before : (c : goal.After-guides-2-1) → Stored
 before c = celled c.keys.inside.list.items c.keys.inside.cells.items
 
 -- the cells that the slice of them wrote back
-abbrev cells : (c : goal.After-cells-2-1) → List Cell
+abbrev cells : (c : goal.After-guides-2-1) → List Cell
 cells c = take c.keys.inside.cells.len (c.take_each.new.cells ++ drop (length c.take_each.new.cells) c.keys.inside.cells.items)
 
-as_many : (c : goal.After-cells-2-1) → length c.take_each.new.cells ≡ length c.keys.inside.list.items
+as_many : (c : goal.After-guides-2-1) → length c.take_each.new.cells ≡ length c.keys.inside.list.items
 as_many c = c.take_each.ensures.as_many ∙ ap (λ (l : List Key). length l) c.deref.ensures.value
 
-cells_are : (c : goal.After-cells-2-1) → cells c ≡ c.take_each.new.cells
+cells_are : (c : goal.After-guides-2-1) → cells c ≡ c.take_each.new.cells
 cells_are c =
     let room : length c.keys.inside.cells.items ≡ c.keys.inside.cells.len = ap (λ (l : List Cell). length l) (sym c.deref_mut.ensures.value) ∙ c.deref_mut.ensures.len in
     written_back c.take_each.new.cells c.keys.inside.cells.items c.keys.inside.cells.len (as_many c ∙ sym c.keys.invariant.1 ∙ room) room
 
-abbrev full : (c : goal.After-cells-2-1) → Stored
+abbrev full : (c : goal.After-guides-2-1) → Stored
 full c = celled c.keys.inside.list.items (cells c)
 
-moved : (c : goal.After-cells-2-1) → AreMoved c.keys.inside.list.items c.args.self.now (before c) c.take_each.new.self (full c)
+moved : (c : goal.After-guides-2-1) → AreMoved c.keys.inside.list.items c.args.self.now (before c) c.take_each.new.self (full c)
 moved c =
     subst (λ (l : List Cell). AreMoved c.keys.inside.list.items c.args.self.now (before c) c.take_each.new.self (celled c.keys.inside.list.items l)) (sym (cells_are c))
     (subst (λ (l : List Key). AreMoved l c.args.self.now (before c) c.take_each.new.self (celled l c.take_each.new.cells)) c.deref.ensures.value

@@ -1,0 +1,7 @@
+//! A set of small numbers, one bit each.
+#![tactic(auto)]
+
+mod bit_set;
+mod bits;
+
+pub use bit_set::BitSet;

@@ -1,0 +1,131 @@
+-- Places that are linked to earlier ones.
+use Rattle.std.proofs.Common.{nat_eq, ◌≡◌, ℕ, zero, suc, ◌+◌, ◌<◌, Bool, true, false, cond, ◌&&◌, bytes_eq, List, [], ◌∷◌, ◌++◌, map, length, Option, None, Some, inl, inr, ◌⊎◌, refl, sym, ap, subst, ◌∙◌, arith, slice_index_or}
+use Rattle.std.specs.Prelude.{slice_get, IfSome}
+use Rattle.std.specs.List.{All}
+use Rattle.std.specs.Map.{lookup}
+use Rattle.std.specs.Option.{option_to_list}
+use Rattle.std.proofs.lemmas.List.Elements.{All-nil, All-cons, All-append}
+use Rattle.indexmap.specs.IndexMap.{get}
+use Rattle.gw_base.specs.declared.ids.CtxNum.{CtxNum}
+use Rattle.gw_base.specs.declared.key.Key.{Key}
+use Rattle.gw_base.specs.declared.key.Key.TheVariants.{Term, Ctx, Whole}
+use Rattle.gw_base.proofs.NamesInLists.{either}
+use Rattle.gw_base.proofs.NameTests.{same_name, same_number}
+use Rattle.gw_table.specs.Maps.{Maps}
+use Rattle.gw_board.specs.Boards.{requested_in}
+use Rattle.gw_board.specs.Carried.{BurstRequest}
+use Rattle.gw_board.specs.Core.{Place}
+use Rattle.gw_board.specs.Links.{last_named, NamesBefore, AreLastNamed, IsLink, AreLinked}
+use Rattle.gw_board.specs.Named.{does_name, IsNoneOfWave}
+use Rattle.gw_board.specs.BoardEntries.{place_of, standing_of}
+use Rattle.gw_board.specs.Waves.{is_pending}
+use Rattle.gw_board.specs.declared.links.LastNamed.{LastNamed}
+use Rattle.gw_board.specs.declared.board_entry.BoardEntry.{BoardEntry}
+use Rattle.gw_board.proofs.Behind.{behind}
+use Rattle.gw_board.proofs.Naming.{named_meets}
+use Rattle.gw_board.proofs.BoardEntryFacts.{length-places, place_there, seat_place}
+
+-- ---- a link to a place that is pending
+
+pub asked_at : (places : List Place) (i : ℕ) (p : Place) → slice_get places i ≡ Some p → slice_get (requested_in places) i ≡ Some p.requested
+asked_at [] i p e = absurd cc
+asked_at (q ∷ qs) zero p e = let same : q ≡ p = cc in ap (λ (x : Place). Some x.requested) same
+asked_at (q ∷ qs) (suc i) p e = asked_at qs i p e
+
+pub link_behind : (board_entries : List BoardEntry) (i l : ℕ) (s : BoardEntry) → i < length board_entries → IsLink (requested_in (map place_of board_entries)) i l → s ≡ slice_index_or board_entries l s → is_pending (standing_of s.stage) ≡ true
+    → (m : Maps) → IsNoneOfWave m (map place_of board_entries) i
+link_behind board_entries i l s inside link e pends m =
+    let places : List Place = map place_of board_entries in
+    let count : length places ≡ length board_entries = length-places board_entries in
+    let first = link.before in
+    let there = place_there places i (omega arith) in
+    let one : slice_get places l ≡ Some (place_of s) = seat_place board_entries l s (omega arith) e in
+    behind m places i l there.0 (place_of s) there.1 one link.before
+    (λ j. pends j && link.meet s.task there.0.requested (asked_at places l (place_of s) one) (asked_at places i there.0 there.1) m j)
+
+-- ---- the last place that names a thing
+
+abbrev in_some : BurstRequest → Option BurstRequest → BurstRequest
+in_some d None = d
+in_some d (Some a) = a
+
+same_there : (requested : List BurstRequest) (i : ℕ) (a b : BurstRequest) → slice_get requested i ≡ Some a → slice_get requested i ≡ Some b → a ≡ b
+same_there requested i a b e f = ap (in_some a) (sym e ∙ f)
+
+on_some : {X : Type 0} (P Q : X → Type 0) (o : Option X) → ((x : X) → P x → Q x) → IfSome o P → IfSome o Q
+on_some P Q None f h = tt
+on_some P Q (Some x) f h = f x h
+
+pub none_named : (requested : List BurstRequest) (last : LastNamed) → ((k : Key) → last_named last k ≡ None) → AreLastNamed requested 0 last
+none_named requested last h k = subst (λ o. IfSome o (NamesBefore requested 0 k)) (sym (h k)) tt
+
+pub named_up_to : (requested : List BurstRequest) (n : ℕ) (last : LastNamed) → AreLastNamed requested n last → AreLastNamed requested (n + 1) last
+named_up_to requested n last h k = on_some (NamesBefore requested n k) (NamesBefore requested (n + 1) k) (last_named last k) (λ p x. let b = x.before in record { before = omega arith; named = x.named }) (h k)
+
+-- a key more, which the place names
+pub named_more : (requested : List BurstRequest) (i : ℕ) (b : BurstRequest) (key : Key) (old new : LastNamed) → slice_get requested i ≡ Some b → does_name b key ≡ true → AreLastNamed requested (i + 1) old
+    → ((k : Key) → (last_named new k ≡ last_named old k) ⊎ ((k ≡ key) × (last_named new k ≡ Some i))) → AreLastNamed requested (i + 1) new
+named_more requested i b key old new e named so_far step k =
+    either (step k)
+    (λ same. subst (λ o. IfSome o (NamesBefore requested (i + 1) k)) (sym same) (so_far k))
+    (λ is. subst (λ o. IfSome o (NamesBefore requested (i + 1) k)) (sym is.1)
+    (record { before = omega arith; named = λ a f. (λ j. does_name (same_there requested i a b f e j) (is.0 j)) ∙ named }))
+
+-- and an earlier place that names it is a link
+pub named_link : (requested : List BurstRequest) (i l : ℕ) (b : BurstRequest) (key : Key) → slice_get requested i ≡ Some b → does_name b key ≡ true → l < i → NamesBefore requested (i + 1) key l → IsLink requested i l
+named_link requested i l b key e named first there = record {
+  before = first;
+  meet = λ x y f g m. named_meets x y key (there.named x f) (ap (λ (z : BurstRequest). does_name z key) (same_there requested i y b g e) ∙ named) m;
+}
+
+pub links_more : (requested : List BurstRequest) (i : ℕ) (b : BurstRequest) (key : Key) (old : LastNamed) (links : List ℕ) (earlier : Option ℕ) → slice_get requested i ≡ Some b → does_name b key ≡ true → AreLastNamed requested (i + 1) old
+    → IfSome earlier (λ p. (p < i) × (last_named old key ≡ Some p)) → All (IsLink requested i) links → All (IsLink requested i) (links ++ option_to_list earlier)
+links_more requested i b key old links None e named so_far h all = All-append (IsLink requested i) links [] all (All-nil (IsLink requested i))
+links_more requested i b key old links (Some l) e named so_far h all =
+    All-append (IsLink requested i) links (l ∷ []) all
+    (All-cons (IsLink requested i) l [] (named_link requested i l b key e named h.0 (subst (λ o. IfSome o (NamesBefore requested (i + 1) key)) h.1 (so_far key))) (All-nil (IsLink requested i)))
+
+-- ---- where it is kept
+
+pub none_yet : (last : LastNamed) → last.terms.entries ≡ [] → last.contexts.entries ≡ [] → (k : Key) → last_named last k ≡ None
+none_yet last e f (Term t) = ap (λ es. lookup (bytes_eq t) es) e
+none_yet last e f (Ctx n) = ap (λ es. lookup (nat_eq n.0) es) f
+none_yet last e f Whole = refl
+
+module _ (old new : LastNamed) (place : ℕ) where
+  abbrev pub Was : Key → Key → Type 0
+  Was key k = (last_named new k ≡ last_named old k) ⊎ ((k ≡ key) × (last_named new k ≡ Some place))
+
+  pub term_added : (t : List ℕ) → new.contexts ≡ old.contexts → ((q : List ℕ) → get bytes_eq new.terms q ≡ cond (bytes_eq t q) (Some place) (get bytes_eq old.terms q)) → (k : Key) → Was (Term t) k
+  term_added t e h (Term q) = by (bytes_eq t q) refl
+    where
+      by : (b : Bool) → bytes_eq t q ≡ b → Was (Term t) (Term q)
+      by true f = inr (ap Term (sym (same_name t q f)), h q ∙ ap (λ b. cond b (Some place) (get bytes_eq old.terms q)) f)
+      by false f = inl (h q ∙ ap (λ b. cond b (Some place) (get bytes_eq old.terms q)) f)
+  term_added t e h (Ctx n) = inl (ap (λ m. get nat_eq m n.0) e)
+  term_added t e h Whole = inl refl
+
+  pub context_added : (c : CtxNum) → new.terms ≡ old.terms → ((q : ℕ) → get nat_eq new.contexts q ≡ cond (nat_eq c.0 q) (Some place) (get nat_eq old.contexts q)) → (k : Key) → Was (Ctx c) k
+  context_added c e h (Term q) = inl (ap (λ m. get bytes_eq m q) e)
+  context_added c e h (Ctx n) = by (nat_eq c.0 n.0) refl
+    where
+      by : (b : Bool) → nat_eq c.0 n.0 ≡ b → Was (Ctx c) (Ctx n)
+      by true f = inr (ap Ctx (sym (same_number c n f)), h n.0 ∙ ap (λ b. cond b (Some place) (get nat_eq old.contexts n.0)) f)
+      by false f = inl (h n.0 ∙ ap (λ b. cond b (Some place) (get nat_eq old.contexts n.0)) f)
+  context_added c e h Whole = inl refl
+
+-- ---- one place more
+
+pushed : {X : Type 0} (xs : List X) (x : X) (P : ℕ → X → Type 0) → ((i : ℕ) → IfSome (slice_get xs i) (P i)) → P (length xs) x → (i : ℕ) → IfSome (slice_get (xs ++ x ∷ []) i) (P i)
+pushed [] x P f h zero = h
+pushed [] x P f h (suc i) = tt
+pushed (y ∷ ys) x P f h zero = f zero
+pushed (y ∷ ys) x P f h (suc i) = pushed ys x (λ j. P (suc j)) (λ j. f (suc j)) h i
+
+pub linked_more : (requested : List BurstRequest) (all : List (List ℕ)) (links : List ℕ) → AreLinked requested all → All (IsLink requested (length all)) links → AreLinked requested (all ++ links ∷ [])
+linked_more requested all links f h = pushed all links (λ i. All (IsLink requested i)) f h
+
+-- ---- the same burst
+
+pub linked_still : (old new : List BurstRequest) (links : List (List ℕ)) → new ≡ old → AreLinked old links → AreLinked new links
+linked_still old new links e h = subst (λ (l : List BurstRequest). AreLinked l links) (sym e) h

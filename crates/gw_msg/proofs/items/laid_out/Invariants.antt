@@ -1,6 +1,0 @@
-use Rattle.std.proofs.Common.{◌≡◌, ◌++◌}
-use Rattle.gw_msg.proofs.items.laid_out.Given as goal
-
--- with those that are left, they are all
-abbrev pub invariant-loop-item : goal.invariant-loop-item
-invariant-loop-item l = l.laid.items ++ l.item-iterator.rest.items ≡ l.initial.item-iterator.rest.items
