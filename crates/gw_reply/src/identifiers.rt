@@ -6,7 +6,6 @@ ghost use Rattle.gw_reply.specs.Contexts.{context_text};
 
 use crate::wire::{Written, write_opening};
 use gw_base::{CtxNum, CtxRef, TermRef, Verb};
-use itoa::Buffer;
 use std::alloc::AllocError;
 
 /// The ContextID, and the brace that opens behind it.
@@ -18,19 +17,6 @@ pub(crate) fn write_context(ctx: &CtxRef, out: &mut Vec<u8>) -> Result<(), Alloc
         CtxRef::All => out.extend_from_slice(b"*{"),
         CtxRef::Choose => out.extend_from_slice(b"${"),
         CtxRef::Num(CtxNum(number)) => write_opening(*number, out),
-    }
-}
-
-/// The ContextID alone; the digits of a number lie in the buffer.
-#[inline(always)]
-pub(crate) fn context_word<'a>(ctx: &CtxRef, digits: &'a mut Buffer) -> &'a [u8]
-    ensures { result.now ≡ context_text ctx.now }
-{
-    match ctx {
-        CtxRef::Null => b"-",
-        CtxRef::All => b"*",
-        CtxRef::Choose => b"$",
-        CtxRef::Num(CtxNum(number)) => digits.format(*number).as_bytes(),
     }
 }
 

@@ -1,16 +1,15 @@
 //! The text of replies to commands, actions and transactions (RFC 3525, section 8.2.2 and Annex B.2).
 
-ghost use Rattle.std.specs.Prelude.{◌≡◌, ◌+◌, ◌∷◌, ◌++◌, IfOk, OnOk, codes, length};
+ghost use Rattle.std.specs.Prelude.{◌≡◌, ◌∷◌, ◌++◌, OnOk, codes};
 ghost use Rattle.gw_reply.specs.Lists.{comma};
 ghost use Rattle.gw_reply.specs.Replies.{body_text, framed, inner_text};
 
 use crate::context_parts::ContextPart;
-use crate::identifiers::{context_word, write_command, write_context};
+use crate::identifiers::{write_command, write_context};
 use crate::parts::ReplyPart;
 use crate::reply::{ActionReply, CommandReply, TxReply};
 use crate::wire::{Written, write_opening, write_parts, write_replies};
 use gw_base::{Code, CtxRef, Items};
-use itoa::Buffer;
 use std::alloc::AllocError;
 
 /// What follows the TerminationID: the parts in braces, if there are any, or an error in braces.
@@ -73,42 +72,22 @@ impl Written for ActionReply {
     }
 }
 
-/// What stands in front of the ContextID.
-const HEAD: &[u8] = b",Context=";
-
-/// Fills the place with the head of an action reply.
-fn fill_head(place: &mut [u8], word: &[u8])
-    requires { length place.old ≡ length word.now + 9 }
-    ensures { place.new ≡ codes ",Context=" ++ word.now }
-{
-    let (first, last) = place.split_at_mut(HEAD.len());
-    first.copy_from_slice(HEAD);
-    last.copy_from_slice(word);
-}
-
 /// The reply to an action in this context, behind a comma: from what stands between its braces, where each part of
-/// that has a comma before it. It is made in the buffer that it is given.
-pub(crate) fn framed_action(ctx: &CtxRef, inner: Vec<u8>) -> Result<Vec<u8>, AllocError>
-    ensures { IfOk result (λ out. out.items ≡ comma ∷ framed ctx.now inner.items) }
+/// that has a comma before it.
+pub(crate) fn write_framed_action(
+    ctx: &CtxRef,
+    inner: &[u8],
+    out: &mut Vec<u8>,
+) -> Result<(), AllocError>
+    ensures { OnOk result (out.new.items ≡ out.old.items ++ comma ∷ framed ctx.now inner.now) }
 {
-    let mut digits = Buffer::new();
-    let word = context_word(ctx, &mut digits);
-    let mut out = inner;
-    let length = out.len();
-    out.extend_from_slice(HEAD)?;
-    out.extend_from_slice(word)?;
-    if length == 0 {
-        out.extend_from_slice(b"{}")?;
-        return Ok(out);
+    out.extend_from_slice(b",Context=")?;
+    write_context(ctx, out)?;
+    if let [_, rest @ ..] = inner {
+        out.extend_from_slice(rest)?;
     }
-    // What stands between the braces makes way for the head, and its first comma for the brace.
-    let front = out.len() - length;
-    out.copy_within(..length, front);
-    let (head, _) = out.as_mut_slice().split_at_mut(front);
-    fill_head(head, word);
-    out[front] = b'{';
     out.push(b'}')?;
-    Ok(out)
+    Ok(())
 }
 
 impl Written for TxReply {

@@ -11,7 +11,7 @@ ghost use Rattle.gw_reply.specs.declared.writer.ReplyWriter.TheVariants.{All, Wi
 
 use crate::context_parts::ContextPart;
 use crate::reply::{ActionReply, CommandReply};
-use crate::tree_text::framed_action;
+use crate::tree_text::write_framed_action;
 use crate::wire::Written;
 use gw_base::{CtxRef, Items, NoMemory};
 
@@ -29,15 +29,24 @@ pub enum ReplyWriter<T> {
 /// Room for so many bytes is made at once: most replies need no more.
 const ROOM: usize = 256;
 
-/// The text of a reply goes behind those that are written, and a comma before it.
+/// The text, with room for more of it.
 #[inline(always)]
-fn with_text<T: Written>(text: Items<u8>, reply: &T) -> Result<Items<u8>, NoMemory>
-    ensures { IfOk result (λ all. all ≡ text ++ later T.text (reply.now ∷ [])) }
+fn with_room(text: Items<u8>) -> Result<Vec<u8>, NoMemory>
+    ensures { IfOk result (λ out. out.items ≡ text) }
 {
     let mut out = text.into_vec();
     if out.capacity() == 0 {
         out.reserve(ROOM)?;
     }
+    Ok(out)
+}
+
+/// The text of a reply goes behind those that are written, and a comma before it.
+#[inline(always)]
+fn with_text<T: Written>(text: Items<u8>, reply: &T) -> Result<Items<u8>, NoMemory>
+    ensures { IfOk result (λ all. all ≡ text ++ later T.text (reply.now ∷ [])) }
+{
+    let mut out = with_room(text)?;
     out.push(b',')?;
     reply.write_to(&mut out)?;
     Ok(Items::from(out))
@@ -118,9 +127,11 @@ fn with_action(
 ) -> Result<ReplyWriter<ActionReply>, NoMemory>
     ensures { IfOk result (λ all. all ≡ written_within front (comma ∷ framed ctx.now inner) room) }
 {
-    let action = Items::from(framed_action(ctx, inner.into_vec())?);
-    match room.checked_sub(action.len()) {
-        Some(left) => Ok(ReplyWriter::Within(joined(front, action)?, left)),
+    let before = front.len();
+    let mut all = with_room(front)?;
+    write_framed_action(ctx, inner.as_slice(), &mut all)?;
+    match room.checked_sub(all.len() - before) {
+        Some(left) => Ok(ReplyWriter::Within(Items::from(all), left)),
         None => Ok(ReplyWriter::TooLong),
     }
 }

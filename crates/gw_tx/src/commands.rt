@@ -14,7 +14,7 @@ ghost use Rattle.gw_tx.specs.Properties.{ArePlain};
 ghost use Rattle.gw_tx.specs.LimitedText.{progress};
 ghost use Rattle.gw_tx.specs.Transactions.{attempt, commands as all_commands, replied as action_replied};
 
-use crate::limited_text::{Progress, begun};
+use crate::limited_text::{Progress, inside};
 use crate::owned::{ActionTask, next_entry};
 use crate::replies::replied;
 use crate::setting::set_when_made;
@@ -158,8 +158,7 @@ pub(crate) fn commands_in(
     ensures answer { (all : List Part) → parts ≡ written_behind context_part_text (inside writer) all → IfOk result (λ done. done ≡ progress action_reply_text writer (action_replied all (all_commands task.now.rules.now late.now at (paired_commands task.now.slots.now task.now.sent.now.commands) draft.old.maps).answer)) }
     ensures keys { draft.new.keys ≡ draft.old.keys }
 {
-    let mut writer = writer;
-    let within = begun(alloc, &mut writer);
+    let within = inside(alloc, &writer);
     let done = commands(alloc, draft, late, at, task, within)?;
     replied(writer, parts, done)
 }

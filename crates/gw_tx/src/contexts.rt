@@ -17,7 +17,7 @@ ghost use Rattle.gw_tx.specs.Transactions.{in_context as done_in_context, in_all
 
 use crate::commands::{commands_in, commands_prepared};
 use crate::context_parts::context_parts_if;
-use crate::limited_text::{Progress, begun};
+use crate::limited_text::{Progress, inside};
 use crate::owned::ActionTask;
 use crate::replies::{action_error, replied};
 use crate::setting::set_properties;
@@ -70,8 +70,7 @@ fn in_each(
 {
     set_properties(draft, number, task.sent.props.as_slice())?;
     let parts = context_parts_if(alloc, draft, number, task.sent, &writer)?;
-    let mut writer = writer;
-    let within = begun(alloc, &mut writer);
+    let within = inside(alloc, &writer);
     let done = commands_prepared(alloc, draft, At::Each(number), task, prepared, within)?;
     replied(writer, parts, done)
 }

@@ -10,7 +10,6 @@ use gw_base::{Items, TxId};
 use gw_reply::{ActionReply, ReplyWriter};
 use itoa::Buffer;
 use std::alloc::Global;
-use std::mem;
 
 /// What attempts came to whose replies are written as they come.
 #[derive(Drop)]
@@ -57,21 +56,6 @@ pub(crate) fn inside<T: Drop>(alloc: Global, writer: &ReplyWriter<ActionReply>) 
         ReplyWriter::Within(_, room) => ReplyWriter::Within(Items::new(alloc), *room),
         ReplyWriter::TooLong => ReplyWriter::TooLong,
     }
-}
-
-/// The writer of the commands of an action, before the first of them, as [`inside`] says. Where nothing is written
-/// before the action, it takes over the block.
-pub(crate) fn begun<T: Drop>(alloc: Global, writer: &mut ReplyWriter<ActionReply>) -> ReplyWriter<T>
-    ensures begun { result ≡ inside writer.old }
-    ensures same { writer.new ≡ writer.old }
-{
-    if let ReplyWriter::Within(text, room) = writer {
-        if text.is_empty() {
-            let block = mem::replace(text, Items::new(alloc));
-            return ReplyWriter::Within(block, *room);
-        }
-    }
-    inside(alloc, writer)
 }
 
 /// The room between the braces of a reply of this number, whose text has so many bytes at most: `Reply=<number>{}`

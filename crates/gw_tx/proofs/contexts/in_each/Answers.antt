@@ -1,11 +1,8 @@
-use Rattle.std.proofs.Common.{Result, Ok, Err, OnOk, IfOk, ◌≡◌, List, [], sym, ap, subst, ◌∙◌}
+use Rattle.std.proofs.Common.{Result, Ok, Err, OnOk, IfOk, ◌≡◌, List, [], ap, subst, ◌∙◌}
 use Rattle.gw_msg.specs.declared.message.ContextProp.{ContextProp}
 use Rattle.gw_refusal.specs.declared.at.At.TheVariants.{Each}
-use Rattle.gw_reply.specs.ContextParts.{context_part_text}
 use Rattle.gw_reply.specs.Replies.{command_reply_text, action_reply_text}
-use Rattle.gw_reply.specs.Writers.{inside, written_behind}
 use Rattle.gw_reply.specs.declared.context_parts.ContextPart.{ContextPart}
-use Rattle.gw_reply.specs.declared.reply.ActionReply.{ActionReply}
 use Rattle.gw_reply.specs.declared.reply.CommandReply.{CommandReply}
 use Rattle.gw_reply.specs.declared.writer.ReplyWriter.{ReplyWriter}
 use Rattle.gw_reserve.specs.Owned.{paired_commands}
@@ -44,8 +41,6 @@ returns-clause-answer c =
     let did : Maps → Attempts At CommandReply = λ m. (commands task.rules.now [] (Each n) (paired_commands task.slots.now task.sent.now.commands) m).answer in
     let parts : Maps → List ContextPart = λ m. context_parts_if task.sent.now (ctx m n) in
     let now : Maps = c.set_properties.new.draft.maps in
-    let same = c.begun-within.ensures.same in
-    subst (λ (w : ReplyWriter ActionReply). IfOk c.replied.result (λ reply. reply ≡ progress action_reply_text w (replied (parts (set_properties n task.sent.now.props a.draft.now.maps)) (did (set_properties n task.sent.now.props a.draft.now.maps))))) same
-    (subst (λ (m : Maps). IfOk c.replied.result (λ reply. reply ≡ progress action_reply_text c.begun-within.new.writer (replied (parts m) (did m)))) ready
-    (c.replied.ensures (parts now) (did now) (c.in_ok-parts.ensures ∙ ap (λ (w : ReplyWriter ActionReply). written_behind context_part_text (inside {T = ContextPart} w) (parts now)) (sym same))
-    (c.in_ok-done.ensures.answer ∙ ap (λ (w : ReplyWriter CommandReply). progress command_reply_text w (did now)) (c.begun-within.ensures.begun ∙ ap (λ (w : ReplyWriter ActionReply). inside {T = CommandReply} w) (sym same)))))
+    subst (λ (m : Maps). IfOk c.replied.result (λ reply. reply ≡ progress action_reply_text a.writer (replied (parts m) (did m)))) ready
+    (c.replied.ensures (parts now) (did now) c.in_ok-parts.ensures
+    (c.in_ok-done.ensures.answer ∙ ap (λ (w : ReplyWriter CommandReply). progress command_reply_text w (did now)) c.inside-within.ensures))
