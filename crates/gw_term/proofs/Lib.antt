@@ -8,7 +8,6 @@ pub mod Gathering
 pub mod TooLong
 pub mod KeptMerges
 pub mod KeptAudits
-pub mod Naming
 pub mod SettingLists
 pub mod NameTags
 pub mod SamePlaces

@@ -1,12 +1,10 @@
 -- Merges, from one element to the next.
 use Rattle.std.proofs.Common.{◌≡◌, ℕ, suc, ◌+◌, ◌<◌, true, false, List, [], ◌∷◌, ◌++◌, length, drop, get_or, Option, Some, None, bytes_eq, refl, ap, sym, ◌∙◌, add-one, drop-cons}
-use Rattle.std.specs.List.{flat_map}
 use Rattle.std.specs.Bool.{Decides}
 use Rattle.gw_text.specs.Runs.{begins, is_byte}
 use Rattle.gw_text.specs.Tokens.{is_same_word}
 use Rattle.gw_desc.specs.declared.descriptor.Property.{Property}
-use Rattle.gw_term.specs.Merge.{each, and_then, property_place, last_service}
-use Rattle.gw_base.specs.declared.command_words.Service.{Service}
+use Rattle.gw_term.specs.Merge.{each, and_then, property_place}
 
 pub at_place : {T : Type 0} (list : List T) (i : ℕ) (x : T) → i < length list → x ≡ get_or list i x → drop i list ≡ x ∷ drop (i + 1) list
 at_place list i x h is = rw (add-one, drop-cons list i x) (ap (λ y. y ∷ drop (suc i) list) (sym is))
@@ -19,19 +17,6 @@ each-append {S} step (x ∷ xs) ys s = by (step x s) (λ t. each-append step xs 
         → and_then first (each step (xs ++ ys)) ≡ and_then (and_then first (each step xs)) (each step ys)
     by None later = refl
     by (Some t) later = later t
-
--- the elements that the next one stands for, and those behind it
-pub flat_next : {S X Y : Type 0} (step : Y → S → Option S) (of : X → List Y) (list : List X) (i : ℕ) (x : X) (s : S) → i < length list → x ≡ get_or list i x
-    → each step (flat_map of (drop i list)) s ≡ and_then (each step (of x) s) (each step (flat_map of (drop (i + 1) list)))
-flat_next step of list i x s h is = ap (λ l. each step (flat_map of l) s) (at_place list i x h is) ∙ each-append step (of x) (flat_map of (drop (i + 1) list)) s
-
-last_service-append : (xs ys : List (Property (List ℕ))) (s : Service) → last_service (xs ++ ys) s ≡ last_service ys (last_service xs s)
-last_service-append [] ys s = refl
-last_service-append (x ∷ xs) ys s = last_service-append xs ys _
-
-pub service_next : {X : Type 0} (of : X → List (Property (List ℕ))) (list : List X) (i : ℕ) (x : X) (s : Service) → i < length list → x ≡ get_or list i x
-    → last_service (flat_map of (drop i list)) s ≡ last_service (flat_map of (drop (i + 1) list)) (last_service (of x) s)
-service_next of list i x s h is = ap (λ l. last_service (flat_map of l) s) (at_place list i x h is) ∙ last_service-append (of x) (flat_map of (drop (i + 1) list)) s
 
 -- the place of a name, from one property to the next
 pub place_here : (name : List ℕ) (list : List (Property (List ℕ))) (i : ℕ) (p : Property (List ℕ)) → i < length list → p ≡ get_or list i p

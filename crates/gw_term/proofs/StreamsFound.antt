@@ -23,7 +23,6 @@ use Rattle.gw_term.specs.declared.streams.Merging.{Merging}
 use Rattle.gw_term.specs.Record.{tail_of}
 use Rattle.gw_term.specs.Merge.{and_then, each, put_property, put_state, put_control, put_part, local_text, is_filled, begun, unnamed, stream_in, names_stream, is_named_in, media_parts, parts_in_part, parts_in, states_in, last_service, merged_service, merged_properties, merged_stream, merged_tail, kept_tail, merged}
 use Rattle.gw_term.specs.Laws.{IsStreamAfter}
-use Rattle.gw_term.specs.Named.{or_named}
 use Rattle.gw_term.specs.Lookups.{states_sent, service_of_property, controls_in, locals_in, remotes_in, controls_sent, mode_by, modes_sent, tails_sent, list_in, mode_in, local_in, remote_in, IsStreamFound, IsFoundAfter}
 use Rattle.gw_term.proofs.ByField.{by_field, same_unnamed}
 use Rattle.gw_term.proofs.Made.{mapped_from, between}
@@ -46,7 +45,7 @@ service_found (p ∷ ps) old = by (is_service_states p.name) (service_found ps)
     by true rest = rest (unwrap_or (service_set_by p) old) ∙ last_set (service_set_by p) old (filter_map service_of_property ps)
     by false rest = rest old
 
-abbrev not_service : P → Bool
+abbrev pub not_service : P → Bool
 not_service p = not (is_service_states p.name)
 
 -- states are put as the properties among them
@@ -148,32 +147,19 @@ module _ (rules : Rules) (slot : Option ℕ) (number : ℕ) where
 
 -- ---- a stream that is not named
 
-no_part : (number : ℕ) (p : MediaPart) → names_stream number p ≡ false → parts_in_part number p ≡ []
+pub no_part : (number : ℕ) (p : MediaPart) → names_stream number p ≡ false → parts_in_part number p ≡ []
 no_part number (media.Outside p) h = rw h refl
 no_part number (media.Stream other parts) h = rw h refl
 no_part number (media.TerminationState properties) h = refl
 
-none_in : {X Y : Type 0} (test : X → Bool) (of : X → List Y) → ((x : X) → test x ≡ false → of x ≡ []) → (xs : List X) → list_any test xs ≡ false → flat_map of xs ≡ []
-none_in test of none [] h = refl
-none_in test of none (x ∷ xs) h =
+pub no_parts_of : {X Y : Type 0} (test : X → Bool) (of : X → List Y) → ((x : X) → test x ≡ false → of x ≡ []) → (xs : List X) → list_any test xs ≡ false → flat_map of xs ≡ []
+no_parts_of test of none [] h = refl
+no_parts_of test of none (x ∷ xs) h =
     let parts = or_parts (test x) (list_any test xs) h in
-    rw (none x parts.0, none_in test of none xs parts.1) refl
+    rw (none x parts.0, no_parts_of test of none xs parts.1) refl
 
 pub no_parts : (number : ℕ) (descriptors : List Descriptor) → list_any (is_named_in number) descriptors ≡ false → flat_map (parts_in number) descriptors ≡ []
-no_parts number = none_in (is_named_in number) (parts_in number) (λ d. none_in (names_stream number) (parts_in_part number) (no_part number) (media_parts d))
-
--- a stream that is named or there is what its parts make of it
-pub merged_there : (rules : Rules) (slot : Option ℕ) (number : ℕ) (descriptors : List Descriptor) (old : Option Stream) → or_named (is_some old) (list_any (is_named_in number) descriptors) ≡ true
-    → merged_stream rules slot number descriptors old ≡ option_map (λ m. Some m) (each (put_part rules slot number) (flat_map (parts_in number) descriptors) (begun old))
-unfolding merged_stream
-merged_there rules slot number descriptors old there = by (list_any (is_named_in number) descriptors) refl old there
-  where
-    by : (t : Bool) → list_any (is_named_in number) descriptors ≡ t → (o : Option Stream) → or_named (is_some o) t ≡ true
-        → (if t then option_map (λ m. Some m) (each (put_part rules slot number) (flat_map (parts_in number) descriptors) (begun o)) else Some (unnamed o))
-        ≡ option_map (λ m. Some m) (each (put_part rules slot number) (flat_map (parts_in number) descriptors) (begun o))
-    by true named o h = refl
-    by false named None h = absurd cc
-    by false named (Some s) h = rw (no_parts number descriptors named) refl
+no_parts number = no_parts_of (is_named_in number) (parts_in number) (λ d. no_parts_of (names_stream number) (parts_in_part number) (no_part number) (media_parts d))
 
 -- ---- a stream
 

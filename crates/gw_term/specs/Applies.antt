@@ -1,15 +1,12 @@
 -- What a merge and its steps answer (own).
-use Rattle.std.specs.Prelude.{◌≡◌, Bool, List, Option, Some, None, Result, Ok, Err}
-use Rattle.std.specs.Option.{option_map}
+use Rattle.std.specs.Prelude.{◌≡◌, List, Option, Some, None, Result, Ok, Err}
 use Rattle.gw_base.specs.declared.code.Code.TheVariants.{InsufficientResources}
 use Rattle.gw_base.specs.declared.command_words.Rules.{Rules}
 use Rattle.gw_desc.specs.declared.descriptor.Descriptor.{Descriptor}
 use Rattle.gw_reply.specs.declared.parts.FilledStream.{FilledStream}
 use Rattle.gw_term.specs.Merge.{merged, filled_by}
 use Rattle.gw_term.specs.declared.apply.Applied.{Applied}
-use Rattle.gw_term.specs.declared.record.Stream.{Stream}
 use Rattle.gw_term.specs.declared.record.Termination.{Termination}
-use Rattle.gw_term.specs.declared.streams.Merging.{Merging}
 use Rattle.gw_term.specs.declared.fault.ApplyFault.{ApplyFault}
 use Rattle.gw_term.specs.declared.fault.ApplyFault.TheVariants as fault
 
@@ -19,29 +16,17 @@ Yields (Ok v) expected = expected ≡ Some v
 Yields (Err (fault.Code code)) expected = (code ≡ InsufficientResources) × (expected ≡ None)
 Yields (Err fault.NoMemory) expected = Unit {0}
 
+-- The same of a record and the streams that were filled.
+abbrev pub YieldsApplied : Result Applied ApplyFault → Option (Termination × List FilledStream) → Type 0
+YieldsApplied (Ok a) expected = expected ≡ Some (a.record, a.filled)
+YieldsApplied (Err (fault.Code code)) expected = (code ≡ InsufficientResources) × (expected ≡ None)
+YieldsApplied (Err fault.NoMemory) expected = Unit {0}
+
 -- The same of a step that changes a value in its place.
 abbrev pub Becomes : {S V : Type 0} → Result V ApplyFault → S → Option S → Type 0
 Becomes (Ok v) new expected = expected ≡ Some new
 Becomes (Err (fault.Code code)) new expected = (code ≡ InsufficientResources) × (expected ≡ None)
 Becomes (Err fault.NoMemory) new expected = Unit {0}
-
--- a stream, with whether its Local was filled
-abbrev pub merging_of : Option Stream → Bool → Option Merging
-merging_of stream filled = option_map (λ s. record { stream = s; filled = filled }) stream
-
--- What the merge of a stream leaves and answers: the stream and whether its Local was filled, or the code where there
--- is no merge.
-abbrev pub IsStreamMerged : Result Bool ApplyFault → Option Stream → Option (Option Merging) → Type 0
-IsStreamMerged (Ok filled) new expected = expected ≡ Some (merging_of new filled)
-IsStreamMerged (Err (fault.Code code)) new expected = (code ≡ InsufficientResources) × (expected ≡ None)
-IsStreamMerged (Err fault.NoMemory) new expected = Unit {0}
-
--- What a merge into a new record leaves and answers: the merge and the streams that were filled, or the code where
--- there is no merge.
-abbrev pub IsMergedInto : {V : Type 0} → Rules → List Descriptor → Termination → Termination → List FilledStream → Result V ApplyFault → Type 0
-IsMergedInto rules descriptors old new filled (Ok v) = (merged rules descriptors old ≡ Some new) × (filled ≡ filled_by rules descriptors old)
-IsMergedInto rules descriptors old new filled (Err (fault.Code code)) = (code ≡ InsufficientResources) × (merged rules descriptors old ≡ None)
-IsMergedInto rules descriptors old new filled (Err fault.NoMemory) = Unit {0}
 
 -- What `merged` answers: the merge and the streams that were filled, or the code where there is no merge.
 abbrev pub IsMerged : Rules → List Descriptor → Termination → Result Applied ApplyFault → Type 0

@@ -12,6 +12,5 @@ pub mod Limits
 pub mod Lookups
 pub mod NameTags
 pub mod KeptRecords
-pub mod Named
 pub mod Gathered
 pub mod Plain

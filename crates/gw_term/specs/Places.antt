@@ -1,6 +1,8 @@
 -- Four places by the number of a stream, and four by the kind of a tail (own): what stands at each, what is made of
 -- all, and what holds of all.
-use Rattle.std.specs.Prelude.{◌⊎◌, ℕ, ◌==◌, if◌then◌else◌, List, ◌++◌}
+use denote.Ref.{Bor}
+use Rattle.std.specs.Prelude.{◌⊎◌, ℕ, ◌==◌, if◌then◌else◌, List, ◌++◌, Option}
+use Rattle.std.specs.Option.{option_copied}
 use Rattle.gw_desc.specs.Checks.{same_kept}
 use Rattle.gw_desc.specs.declared.descriptor.KeptKind.{KeptKind}
 use Rattle.gw_desc.specs.declared.descriptor.KeptKind.TheVariants.{Events, Signals, DigitMap, EventBuffer}
@@ -25,6 +27,10 @@ put_number number a p = record {
   third = if number == 3 then a else p.third;
   fourth = if number == 4 then a else p.fourth;
 }
+
+-- what references lead to
+abbrev pub numbers_read : {A : Type 0} → PerStream (Option (Bor A)) → PerStream (Option A)
+numbers_read p = numbered (λ number. option_copied (at_number number p))
 
 -- how each place is written, in rising order
 abbrev pub rising : {A B : Type 0} → (ℕ → A → List B) → PerStream A → List B
@@ -64,3 +70,7 @@ at_kind EventBuffer p = p.event_buffer
 -- the places, with this at a kind
 abbrev pub put_kind : {A : Type 0} → KeptKind → A → PerKind A → PerKind A
 put_kind kind a p = of_kinds (λ other. if same_kept other kind then a else at_kind other p)
+
+-- what references lead to
+abbrev pub kinds_read : {A : Type 0} → PerKind (Option (Bor A)) → PerKind (Option A)
+kinds_read p = of_kinds (λ kind. option_copied (at_kind kind p))

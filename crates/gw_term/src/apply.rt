@@ -1,105 +1,27 @@
 //! What descriptors do to a termination: all of it, or nothing.
 
-ghost use Rattle.std.specs.Prelude.{◌≡◌, ◌≤◌, ◌++◌, [], IfOk, OnOk, None, Some, true};
-ghost use Rattle.gw_term.specs.Merge.{filled_in, merged_properties, merged_service};
-ghost use Rattle.gw_term.specs.Gathered.{IsGathered};
-ghost use Rattle.gw_term.specs.Named.{named_by, with_set};
-ghost use Rattle.gw_term.specs.Places.{at_number};
-ghost use Rattle.gw_term.specs.Record.{unset};
+ghost use Rattle.std.specs.Prelude.{◌≡◌, IfOk, None};
+ghost use Rattle.gw_term.specs.Gathered.{applied_to};
+ghost use Rattle.gw_term.specs.Places.{kinds_read};
 ghost use Rattle.gw_term.specs.Settings.{nothing_set};
-ghost use Rattle.gw_term.specs.Applies.{IsMerged, IsMergedInto, merging_of};
+ghost use Rattle.gw_term.specs.Applies.{YieldsApplied};
 
 use crate::fault::ApplyFault;
 use crate::gathered::Gathered;
 use crate::held::HeldProperty;
-use crate::named::Named;
-use crate::properties::{merged_properties, merged_service};
+use crate::properties::merged_properties;
 use crate::record::Termination;
-use crate::sent::Sent;
 use crate::settings::{Setting, SettingList, Settings};
-use crate::streams::merge_stream;
+use crate::streams::{Outcome, merge_streams};
 use crate::tails::merge_tails;
-use gw_base::{Items, NoMemory, Rules};
+use crate::target::Target;
+use gw_base::{Items, Rules};
 use gw_desc::Descriptor;
 use gw_reply::FilledStream;
 use std::alloc::{AllocError, Global};
 
 /// The streams whose Local was filled, in rising order.
 pub type Filled = Items<FilledStream>;
-
-/// The Local of the stream of this number goes last, if it was filled.
-fn push_filled(
-    alloc: Global,
-    number: u8,
-    is_filled: bool,
-    settings: &SettingList,
-    filled: &mut Filled,
-) -> Result<(), NoMemory>
-    requires first { 1 ≤ number }
-    requires last { number ≤ 4 }
-    ensures { OnOk result (filled.new ≡ filled.old ++ filled_in number (merging_of (at_number number settings.now.streams) is_filled)) }
-{
-    if !is_filled {
-        return Ok(());
-    }
-    let Some(stream) = settings.stream(number) else {
-        return Ok(());
-    };
-    if let Some(local) = stream.local.to_reply(alloc)? {
-        filled.push(FilledStream { number, local })?;
-    }
-    Ok(())
-}
-
-/// What the descriptors make of what was set, beside its properties, is set where nothing but these is; the streams
-/// whose Local was filled go into a list in rising order.
-#[tactic(auto, unfolding(crate::specs::Merge::merged, crate::specs::Merge::merged_media, crate::specs::Merge::filled_by))]
-fn merge_into(
-    alloc: Global,
-    sent: &Sent<'_, '_, '_>,
-    gathered: &Gathered<'_>,
-    there: &Named,
-    old: &Termination,
-    set: &mut SettingList,
-    filled: &mut Filled,
-) -> Result<(), ApplyFault>
-    requires gathered { IsGathered sent.now.descriptors.now gathered.now }
-    requires there { there.now ≡ with_set old.now.settings (named_by sent.now.descriptors.now) }
-    requires slot { sent.now.slot ≡ old.now.slot }
-    requires rest { merged_properties sent.now.descriptors.now old.now.settings.properties ≡ Some set.old.properties }
-    requires fresh { set.old ≡ record nothing_set { properties = set.old.properties } }
-    requires none { filled.old ≡ [] }
-    ensures { IsMergedInto sent.now.rules.now sent.now.descriptors.now old.now (record (unset old.now.place (merged_service sent.now.descriptors.now old.now.service) old.now.slot) { settings = set.new }) filled.new result }
-{
-    let before = &old.settings;
-    let streams = &there.streams;
-    let first = merge_stream(alloc, sent, 1, &gathered.first, streams.first, before, set)?;
-    let second = merge_stream(
-        alloc,
-        sent,
-        2,
-        &gathered.second,
-        streams.second,
-        before,
-        set,
-    )?;
-    let third = merge_stream(alloc, sent, 3, &gathered.third, streams.third, before, set)?;
-    let fourth = merge_stream(
-        alloc,
-        sent,
-        4,
-        &gathered.fourth,
-        streams.fourth,
-        before,
-        set,
-    )?;
-    push_filled(alloc, 1, first, set, filled)?;
-    push_filled(alloc, 2, second, set, filled)?;
-    push_filled(alloc, 3, third, set, filled)?;
-    push_filled(alloc, 4, fourth, set, filled)?;
-    merge_tails(alloc, sent, &there.tails, before, set)?;
-    Ok(())
-}
 
 /// What is set before streams and tails are: properties, if there are any.
 fn begun(alloc: Global, properties: Items<HeldProperty>) -> Result<SettingList, AllocError>
@@ -121,54 +43,44 @@ pub struct Applied {
     pub filled: Filled,
 }
 
-/// The record after the descriptors, as `Termination::merged` gives it. Long texts are shared with what was made of
-/// them before.
-#[tactic(auto, using(crate::proofs::Gathering::properties_are), unfolding(crate::specs::Merge::merged, crate::specs::Merge::merged_media))]
+/// The record after what descriptors send. Long texts are shared with what was made of them before.
 pub(crate) fn merge(
     alloc: Global,
     rules: &Rules,
-    descriptors: &[Descriptor<'_>],
-    gathered: &Gathered<'_>,
+    sent: &Gathered<'_, '_>,
     old: &Termination,
     made: &Settings,
 ) -> Result<Applied, ApplyFault>
-    requires { IsGathered descriptors.now gathered.now }
-    ensures { IsMerged rules.now descriptors.now old.now result }
+    ensures { YieldsApplied result (applied_to old.now rules.now sent.now.media (kinds_read sent.now.tails)) }
 {
-    let sent = Sent {
+    let target = Target {
         rules,
         slot: old.slot,
-        descriptors,
         made,
     };
-    let mut there = gathered.named;
-    there.add_set(&old.settings);
-    let properties = merged_properties(
+    let media = &sent.media;
+    let before = old.settings.by_place();
+    let properties = merged_properties(alloc, media.properties.as_slice(), before.properties)?;
+    let mut outcome = Outcome {
+        settings: begun(alloc, properties)?,
+        filled: Items::new(alloc),
+    };
+    merge_tails(
         alloc,
-        gathered.properties.as_slice(),
-        old.settings.properties(),
+        made,
+        &sent.tails,
+        &before.tails,
+        &mut outcome.settings,
     )?;
-    let mut settings = begun(alloc, properties)?;
-    let mut filled = Items::new(alloc);
-    merge_into(
-        alloc,
-        &sent,
-        gathered,
-        &there,
-        old,
-        &mut settings,
-        &mut filled,
-    )?;
+    merge_streams(alloc, &target, media, &before.streams, &mut outcome)?;
+    let Outcome { settings, filled } = outcome;
     let record = Termination {
         place: old.place,
-        service: merged_service(descriptors, old.service),
+        service: media.service.unwrap_or(old.service),
         slot: old.slot,
         settings: settings.into_settings(alloc)?,
     };
-    Ok(Applied {
-        record: record,
-        filled,
-    })
+    Ok(Applied { record, filled })
 }
 
 impl Termination {
@@ -188,6 +100,7 @@ impl Termination {
     /// # Errors
     ///
     /// `Code(InsufficientResources)` where a list would hold more than 32 properties; `NoMemory`.
+    #[tactic(auto, using(crate::proofs::Gathering::merged_is))]
     pub fn merged(
         &self,
         alloc: Global,
@@ -196,15 +109,8 @@ impl Termination {
     ) -> Result<Applied, ApplyFault>
         ensures { IsMerged rules.now descriptors.now self.now result }
     {
-        let gathered = Gathered::by(alloc, descriptors)?;
-        merge(
-            alloc,
-            rules,
-            descriptors,
-            &gathered,
-            self,
-            &Settings::none(),
-        )
+        let sent = Gathered::by(alloc, descriptors)?;
+        merge(alloc, rules, &sent, self, &Settings::none())
     }
 
     /// The termination becomes its record after the descriptors, as `merged` gives it. Answers the streams whose

@@ -1,11 +1,13 @@
 //! What a termination answers to an Audit.
 
-ghost use Rattle.std.specs.Prelude.{◌≡◌, ◌≤◌, ◌++◌, IfOk, OnOk};
+ghost use Rattle.std.specs.Prelude.{◌≡◌, ◌++◌, IfOk, OnOk};
+ghost use Rattle.std.specs.Option.{option_copied};
 ghost use Rattle.gw_term.specs.Audit.{written_stream, written_media, written_tail, written_item, written_word};
-ghost use Rattle.gw_term.specs.Places.{at_number, at_kind, rising};
+ghost use Rattle.gw_term.specs.Places.{at_kind, numbers_read, rising};
 
 use crate::held::HeldProperty;
-use crate::record::Termination;
+use crate::places::PerStream;
+use crate::record::{Stream, Termination};
 use crate::settings::Settings;
 use gw_base::{Items, NoMemory};
 use gw_desc::{AuditItem, AuditItems, KeptKind, item_of};
@@ -26,18 +28,16 @@ fn reply_properties(
     Ok(reply)
 }
 
-/// The stream of this number goes last, if it is there.
+/// The stream goes last under this number, if it is there.
 fn push_stream(
     alloc: Global,
     number: u8,
-    settings: &Settings,
+    stream: Option<&Stream>,
     streams: &mut Items<StreamReply>,
 ) -> Result<(), NoMemory>
-    requires first { 1 ≤ number }
-    requires last { number ≤ 4 }
-    ensures { OnOk result (streams.new ≡ streams.old ++ written_stream number (at_number number settings.now.streams)) }
+    ensures { OnOk result (streams.new ≡ streams.old ++ written_stream number (option_copied stream.entry)) }
 {
-    let Some(stream) = settings.stream(number) else {
+    let Some(stream) = stream else {
         return Ok(());
     };
     streams.push(StreamReply {
@@ -50,30 +50,29 @@ fn push_stream(
     Ok(())
 }
 
-/// The streams that are there go last.
-fn push_streams(
+/// The streams that are there, in rising order.
+fn reply_streams(
     alloc: Global,
-    settings: &Settings,
-    streams: &mut Items<StreamReply>,
-) -> Result<(), NoMemory>
-    ensures { OnOk result (streams.new ≡ streams.old ++ rising written_stream settings.now.streams) }
+    from: &PerStream<Option<&Stream>>,
+) -> Result<Items<StreamReply>, NoMemory>
+    ensures { IfOk result (λ streams. streams ≡ rising written_stream (numbers_read from.now)) }
 {
-    push_stream(alloc, 1, settings, streams)?;
-    push_stream(alloc, 2, settings, streams)?;
-    push_stream(alloc, 3, settings, streams)?;
-    push_stream(alloc, 4, settings, streams)
+    let mut streams = Items::new(alloc);
+    push_stream(alloc, 1, from.first, &mut streams)?;
+    push_stream(alloc, 2, from.second, &mut streams)?;
+    push_stream(alloc, 3, from.third, &mut streams)?;
+    push_stream(alloc, 4, from.fourth, &mut streams)?;
+    Ok(streams)
 }
 
 fn reply_media(alloc: Global, termination: &Termination) -> Result<MediaReply, NoMemory>
     ensures { IfOk result (λ media. media ≡ written_media termination.now) }
 {
-    let properties = reply_properties(alloc, termination.settings.properties())?;
-    let mut streams = Items::new(alloc);
-    push_streams(alloc, &termination.settings, &mut streams)?;
+    let set = termination.settings.by_place();
     Ok(MediaReply {
         service: termination.service,
-        properties,
-        streams,
+        properties: reply_properties(alloc, set.properties)?,
+        streams: reply_streams(alloc, &set.streams)?,
     })
 }
 
@@ -81,7 +80,7 @@ fn reply_media(alloc: Global, termination: &Termination) -> Result<MediaReply, N
 fn reply_tail(alloc: Global, kind: KeptKind, settings: &Settings) -> Result<ReplyPart, NoMemory>
     ensures { IfOk result (λ part. part ≡ written_tail kind (at_kind kind settings.now.tails)) }
 {
-    match settings.tail(kind) {
+    match settings.by_place().tails.at(kind) {
         Some(tail) => Ok(ReplyPart::Kept(kind, tail.to_reply(alloc)?)),
         None => Ok(ReplyPart::Bare(AuditItem::Kept(kind))),
     }

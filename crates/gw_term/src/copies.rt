@@ -27,14 +27,6 @@ pub(crate) fn copied_properties(
     Ok(Items::from(copy))
 }
 
-/// The value takes the place of the one there, which is dropped here: where that is done at a type with many fields,
-/// each of them is dropped in turn.
-pub(crate) fn put<T: Drop>(place: &mut T, value: T)
-    ensures { place.new ≡ value }
-{
-    *place = value;
-}
-
 // The copy shares what was set of it.
 impl Clone for Termination {
     ghost is_clone = { λ a b. b ≡ a };

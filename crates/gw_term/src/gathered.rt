@@ -1,19 +1,18 @@
 //! What descriptors send to each list and to each stream, gathered once for all records that they are merged into.
 
-ghost use Rattle.std.specs.Prelude.{◌≡◌, ◌++◌, ◌∷◌, [], IfOk, OnOk};
-ghost use Rattle.gw_term.specs.Gathered.{not_service, nothing_sent, with_control, with_controls, with_part, with_parts, IsGathered, IsSentTo};
-ghost use Rattle.gw_term.specs.Lookups.{states_sent};
-ghost use Rattle.gw_term.specs.Merge.{is_named_in, parts_in, parts_in_part, states_in_part};
-ghost use Rattle.std.specs.List.{filter, flat_map, list_any};
+ghost use Rattle.std.specs.Prelude.{◌≡◌, IfOk, OnOk};
+ghost use Rattle.std.specs.Option.{option_copied};
+ghost use Rattle.gw_term.specs.Gathered.{in_turn, last_tail, media_sent, named_with, no_media, nothing_sent, with_control, with_media_part, with_part, with_state, with_stream, IsGathered};
 
 use crate::held::HeldProperty;
-use crate::named::Named;
-use crate::properties::{media_parts, states_in_part};
-use gw_base::{Held, Items, Span};
+use crate::places::PerKind;
+use gw_base::{Held, Items, Service, Span};
 use gw_desc::{
-    Descriptor, MediaPart, Mode, Property, StreamPart, is_mode, is_service_states, mode_set_by,
+    Descriptor, KeptKind, MediaPart, Mode, Property, StreamPart, Tail, is_mode, is_service_states,
+    mode_set_by, same_kept, service_set_by,
 };
 use std::alloc::{AllocError, Global};
+use std::array;
 
 /// What is sent to a stream: of each kind the last, and the properties in order.
 #[derive(Drop)]
@@ -28,30 +27,32 @@ pub struct SentStream<'a> {
     pub remote: Option<Span<'a>>,
 }
 
-/// What descriptors send.
-pub struct Gathered<'a> {
-    /// The streams and tails that they name.
-    pub(crate) named: Named,
+/// What the Medias of descriptors send.
+#[derive(Drop)]
+pub struct SentMedia<'a> {
+    /// The service state, if one is sent.
+    pub service: Option<Service>,
     /// The properties of TerminationState but ServiceStates.
-    pub(crate) properties: Items<HeldProperty>,
+    pub properties: Items<HeldProperty>,
     /// What is sent to stream 1, if it is named; and so on.
-    pub(crate) first: Option<Held<SentStream<'a>>>,
-    pub(crate) second: Option<Held<SentStream<'a>>>,
-    pub(crate) third: Option<Held<SentStream<'a>>>,
-    pub(crate) fourth: Option<Held<SentStream<'a>>>,
+    pub first: Option<Held<SentStream<'a>>>,
+    pub second: Option<Held<SentStream<'a>>>,
+    pub third: Option<Held<SentStream<'a>>>,
+    pub fourth: Option<Held<SentStream<'a>>>,
+}
+
+/// What descriptors send.
+pub struct Gathered<'a, 'b> {
+    /// What their Medias send.
+    pub(crate) media: SentMedia<'a>,
+    /// The last tail of each kind, if one is sent.
+    pub(crate) tails: PerKind<Option<&'b Tail<Span<'a>>>>,
 }
 
 // By hand, so that a function that drops it does so by one call.
-impl Drop for Gathered<'_> {
+impl Drop for Gathered<'_, '_> {
     fn drop(self) {
-        let Gathered {
-            named: _,
-            properties: _,
-            first: _,
-            second: _,
-            third: _,
-            fourth: _,
-        } = self;
+        let Gathered { media: _, tails: _ } = self;
     }
 }
 
@@ -89,7 +90,7 @@ fn add_controls(
     properties: &[Property<Span<'_>>],
     sent: &mut SentStream<'_>,
 ) -> Result<(), AllocError>
-    ensures { OnOk result (sent.new ≡ with_controls properties.now sent.old) }
+    ensures { OnOk result (sent.new ≡ in_turn with_control properties.now sent.old) }
 {
     for property in properties {
         add_control(alloc, property, sent)?;
@@ -118,7 +119,7 @@ fn add_parts<'a>(
     parts: &[StreamPart<'a>],
     sent: &mut SentStream<'a>,
 ) -> Result<(), AllocError>
-    ensures { OnOk result (sent.new ≡ with_parts parts.now sent.old) }
+    ensures { OnOk result (sent.new ≡ in_turn with_part parts.now sent.old) }
 {
     for part in parts {
         add_part(alloc, part, sent)?;
@@ -126,143 +127,156 @@ fn add_parts<'a>(
     Ok(())
 }
 
-/// What of a part of a Media is of the stream is sent too.
-fn add_part_of<'a>(
+/// The stream that has these parts is named too.
+fn add_stream<'a>(
     alloc: Global,
-    number: u8,
-    part: &MediaPart<'a>,
-    sent: &mut SentStream<'a>,
+    parts: &[StreamPart<'a>],
+    stream: &mut Option<Held<SentStream<'a>>>,
 ) -> Result<(), AllocError>
-    ensures { OnOk result (sent.new ≡ with_parts (parts_in_part number part.now) sent.old) }
+    ensures { OnOk result (stream.new ≡ named_with parts.now stream.old) }
 {
-    match part {
-        MediaPart::Outside(p) if number == 1 => add_part(alloc, p, sent),
-        MediaPart::Stream(other, parts) if *other == u16::from(number) => {
-            add_parts(alloc, parts.as_slice(), sent)
+    let mut sent = match stream.take() {
+        Some(sent) => sent.into_inner(),
+        None => SentStream::nothing(alloc),
+    };
+    add_parts(alloc, parts, &mut sent)?;
+    *stream = Some(Held::new(alloc, sent)?);
+    Ok(())
+}
+
+impl<'a> SentMedia<'a> {
+    /// Nothing. It takes no memory.
+    fn nothing(alloc: Global) -> SentMedia<'a>
+        ensures { result ≡ no_media }
+    {
+        SentMedia {
+            service: None,
+            properties: Items::new(alloc),
+            first: None,
+            second: None,
+            third: None,
+            fourth: None,
         }
-        _ => Ok(()),
+    }
+
+    /// These parts of the stream of this number are sent too.
+    fn add_stream(
+        &mut self,
+        alloc: Global,
+        number: u16,
+        parts: &[StreamPart<'a>],
+    ) -> Result<(), AllocError>
+        ensures { OnOk result (self.new ≡ with_stream number parts.now self.old) }
+    {
+        match number {
+            1 => add_stream(alloc, parts, &mut self.first),
+            2 => add_stream(alloc, parts, &mut self.second),
+            3 => add_stream(alloc, parts, &mut self.third),
+            4 => add_stream(alloc, parts, &mut self.fourth),
+            _ => Ok(()),
+        }
+    }
+
+    /// A property of a TerminationState is sent too.
+    fn add_state(&mut self, alloc: Global, property: &Property<Span<'_>>) -> Result<(), AllocError>
+        ensures { OnOk result (self.new ≡ with_state property.now self.old) }
+    {
+        if is_service_states(property.name.as_bytes()) {
+            self.service = service_set_by(property).or(self.service);
+            return Ok(());
+        }
+        self.properties.push(HeldProperty::of(alloc, property)?)
+    }
+
+    fn add_states(
+        &mut self,
+        alloc: Global,
+        properties: &[Property<Span<'_>>],
+    ) -> Result<(), AllocError>
+        ensures { OnOk result (self.new ≡ in_turn with_state properties.now self.old) }
+    {
+        for property in properties {
+            self.add_state(alloc, property)?;
+        }
+        Ok(())
+    }
+
+    /// A part of a Media is sent too. What stands outside a Stream is of stream 1.
+    fn add_part(&mut self, alloc: Global, part: &MediaPart<'a>) -> Result<(), AllocError>
+        ensures { OnOk result (self.new ≡ with_media_part part.now self.old) }
+    {
+        match part {
+            MediaPart::Outside(part) => self.add_stream(alloc, 1, array::from_ref(part)),
+            MediaPart::Stream(number, parts) => {
+                self.add_stream(alloc, *number, parts.as_slice())
+            }
+            MediaPart::TerminationState(properties) => {
+                self.add_states(alloc, properties.as_slice())
+            }
+        }
+    }
+
+    fn add_parts(&mut self, alloc: Global, parts: &[MediaPart<'a>]) -> Result<(), AllocError>
+        ensures { OnOk result (self.new ≡ in_turn with_media_part parts.now self.old) }
+    {
+        for part in parts {
+            self.add_part(alloc, part)?;
+        }
+        Ok(())
+    }
+
+    /// What the Medias of these descriptors send.
+    fn by(alloc: Global, descriptors: &[Descriptor<'a>]) -> Result<SentMedia<'a>, AllocError>
+        ensures { IfOk result (λ media. media ≡ media_sent descriptors.now) }
+    {
+        let mut media = SentMedia::nothing(alloc);
+        for descriptor in descriptors {
+            match descriptor {
+                Descriptor::Media(parts) => media.add_parts(alloc, parts.as_slice())?,
+                Descriptor::Keep(_, _)
+                | Descriptor::Audit(_)
+                | Descriptor::Services(_)
+                | Descriptor::Other(_) => {}
+            }
+        }
+        Ok(media)
     }
 }
 
-fn add_media<'a>(
-    alloc: Global,
-    number: u8,
-    parts: &[MediaPart<'a>],
-    sent: &mut SentStream<'a>,
-) -> Result<(), AllocError>
-    ensures { OnOk result (sent.new ≡ with_parts (flat_map (parts_in_part number) parts.now) sent.old) }
+/// The last tail of this kind that is sent, if one is.
+fn tail_sent<'a, 'b>(
+    kind: KeptKind,
+    descriptors: &'b [Descriptor<'a>],
+) -> Option<&'b Tail<Span<'a>>>
+    ensures { option_copied result ≡ last_tail kind descriptors.now }
 {
-    for part in parts {
-        add_part_of(alloc, number, part, sent)?;
-    }
-    Ok(())
-}
-
-fn add_all<'a>(
-    alloc: Global,
-    number: u8,
-    descriptors: &[Descriptor<'a>],
-    sent: &mut SentStream<'a>,
-) -> Result<(), AllocError>
-    ensures { OnOk result (sent.new ≡ with_parts (flat_map (parts_in number) descriptors.now) sent.old) }
-{
+    let mut last = None;
     for descriptor in descriptors {
-        add_media(alloc, number, media_parts(descriptor), sent)?;
+        if let Descriptor::Keep(other, tail) = descriptor {
+            if same_kept(kind, *other) {
+                last = Some(tail);
+            }
+        }
     }
-    Ok(())
+    last
 }
 
-/// What is sent to the stream of this number, where it is known whether it is named. To one that is not, nothing is
-/// sent.
-#[tactic(auto, using(crate::proofs::Gathering::none_sent))]
-fn sent_to<'a>(
-    alloc: Global,
-    number: u8,
-    is_named: bool,
-    descriptors: &[Descriptor<'a>],
-) -> Result<Option<Held<SentStream<'a>>>, AllocError>
-    requires { is_named ≡ list_any (is_named_in number) descriptors.now }
-    ensures { IfOk result (λ sent. IsSentTo number descriptors.now sent) }
-{
-    if !is_named {
-        return Ok(None);
-    }
-    let mut sent = SentStream::nothing(alloc);
-    add_all(alloc, number, descriptors, &mut sent)?;
-    Ok(Some(Held::new(alloc, sent)?))
-}
-
-/// A property of a TerminationState is sent too; ServiceStates is none of the list.
-fn add_state(
-    alloc: Global,
-    property: &Property<Span<'_>>,
-    list: &mut Items<HeldProperty>,
-) -> Result<(), AllocError>
-    ensures { OnOk result (list.new ≡ list.old ++ filter not_service (property.now ∷ [])) }
-{
-    if is_service_states(property.name.as_bytes()) {
-        return Ok(());
-    }
-    list.push(HeldProperty::of(alloc, property)?)
-}
-
-fn add_states(
-    alloc: Global,
-    properties: &[Property<Span<'_>>],
-    list: &mut Items<HeldProperty>,
-) -> Result<(), AllocError>
-    ensures { OnOk result (list.new ≡ list.old ++ filter not_service properties.now) }
-{
-    for property in properties {
-        add_state(alloc, property, list)?;
-    }
-    Ok(())
-}
-
-fn add_states_of(
-    alloc: Global,
-    parts: &[MediaPart<'_>],
-    list: &mut Items<HeldProperty>,
-) -> Result<(), AllocError>
-    ensures { OnOk result (list.new ≡ list.old ++ filter not_service (flat_map states_in_part parts.now)) }
-{
-    for part in parts {
-        add_states(alloc, states_in_part(part), list)?;
-    }
-    Ok(())
-}
-
-/// The properties that are sent to the termination's list.
-fn states_sent(
-    alloc: Global,
-    descriptors: &[Descriptor<'_>],
-) -> Result<Items<HeldProperty>, AllocError>
-    ensures { IfOk result (λ list. list ≡ states_sent descriptors.now) }
-{
-    let mut list = Items::new(alloc);
-    for descriptor in descriptors {
-        add_states_of(alloc, media_parts(descriptor), &mut list)?;
-    }
-    Ok(list)
-}
-
-impl<'a> Gathered<'a> {
-    /// What these descriptors send. The work is linear in them, once for each stream that they name.
+impl<'a, 'b> Gathered<'a, 'b> {
+    /// What these descriptors send. The work is linear in them.
     pub(crate) fn by(
         alloc: Global,
-        descriptors: &[Descriptor<'a>],
-    ) -> Result<Gathered<'a>, AllocError>
+        descriptors: &'b [Descriptor<'a>],
+    ) -> Result<Gathered<'a, 'b>, AllocError>
         ensures { IfOk result (IsGathered descriptors.now) }
     {
-        let named = Named::by(descriptors);
-        let streams = named.streams;
         Ok(Gathered {
-            named,
-            properties: states_sent(alloc, descriptors)?,
-            first: sent_to(alloc, 1, streams.first, descriptors)?,
-            second: sent_to(alloc, 2, streams.second, descriptors)?,
-            third: sent_to(alloc, 3, streams.third, descriptors)?,
-            fourth: sent_to(alloc, 4, streams.fourth, descriptors)?,
+            media: SentMedia::by(alloc, descriptors)?,
+            tails: PerKind {
+                events: tail_sent(KeptKind::Events, descriptors),
+                signals: tail_sent(KeptKind::Signals, descriptors),
+                digit_map: tail_sent(KeptKind::DigitMap, descriptors),
+                event_buffer: tail_sent(KeptKind::EventBuffer, descriptors),
+            },
         })
     }
 }

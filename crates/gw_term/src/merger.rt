@@ -1,6 +1,6 @@
 //! Descriptors that are merged into one record after another.
 
-ghost use Rattle.std.specs.Prelude.{◌≡◌, true, IfOk, IfSome, Some};
+ghost use Rattle.std.specs.Prelude.{◌≡◌, true, IfOk, IfSome, Ok, Some};
 ghost use Rattle.std.specs.Option.{ForSome};
 ghost use Rattle.gw_term.specs.Applies.{IsMerged};
 ghost use Rattle.gw_term.specs.Gathered.{IsGathered};
@@ -11,7 +11,6 @@ use crate::apply::{Applied, merge};
 use crate::fault::ApplyFault;
 use crate::gathered::Gathered;
 use crate::plain::are_plain;
-use crate::properties::merged_service;
 use crate::record::Termination;
 use crate::settings::Settings;
 use gw_base::{Items, NoMemory, Rules};
@@ -29,7 +28,7 @@ pub struct Merger<'a, 'b> {
     pub descriptors: &'a [Descriptor<'b>],
     is_plain: bool,
     /// What the descriptors send, once it was requested.
-    gathered: Option<Gathered<'b>>,
+    gathered: Option<Gathered<'b, 'a>>,
     /// The settings met last, if nothing of them was filled.
     before: Option<Settings>,
     /// What was made of the settings met last.
@@ -62,38 +61,24 @@ impl<'a, 'b> Merger<'a, 'b> {
         self.is_plain || slot.is_none()
     }
 
-    /// What is made of these settings where nothing is filled, if they are those that were met last.
-    fn known(&self, settings: &Settings) -> Result<Option<Settings>, AllocError>
-        ensures { IfOk result (λ known. IfSome known (IsMadeOf self.now.rules.now self.now.descriptors.now settings.now)) }
+    /// The record after the descriptors, if nothing is filled and its settings are those that were met last.
+    fn known(&self, alloc: Global, old: &Termination) -> Result<Option<Applied>, AllocError>
+        ensures { IfOk result (λ known. IfSome known (λ applied. IsMerged self.now.rules.now self.now.descriptors.now old.now (Ok applied))) }
     {
-        match &self.before {
-            Some(before) if settings.is_same(before) => Ok(Some(self.after.copied()?)),
-            _ => Ok(None),
+        let (Some(sent), Some(before)) = (&self.gathered, &self.before) else {
+            return Ok(None);
+        };
+        if !self.fills_none(old.slot) || !old.settings.is_same(before) {
+            return Ok(None);
         }
-    }
-
-    /// The record after the descriptors, where nothing is filled and it is known what was set of it then.
-    #[tactic(auto, using(crate::proofs::MadeOnce::made_again, crate::proofs::MadeOnce::fills_none))]
-    fn applied(
-        &self,
-        alloc: Global,
-        old: &Termination,
-        settings: Settings,
-    ) -> Result<Applied, ApplyFault>
-        requires none { fill_none self.now.descriptors.now old.now.slot ≡ true }
-        requires made { IsMadeOf self.now.rules.now self.now.descriptors.now old.now.settings settings }
-        ensures { IsMerged self.now.rules.now self.now.descriptors.now old.now result }
-    {
         let record = Termination {
             place: old.place,
-            service: merged_service(self.descriptors, old.service),
+            service: sent.media.service.unwrap_or(old.service),
             slot: old.slot,
-            settings,
+            settings: self.after.copied()?,
         };
-        Ok(Applied {
-            record: record,
-            filled: Items::new(alloc),
-        })
+        let filled = Items::new(alloc);
+        Ok(Some(Applied { record, filled }))
     }
 
     /// What was made of a record is kept.
@@ -118,24 +103,22 @@ impl<'a, 'b> Merger<'a, 'b> {
     /// # Errors
     ///
     /// Those of [`Termination::merged`].
+    #[tactic(auto, using(crate::proofs::Gathering::merged_is))]
     pub fn merged(&mut self, alloc: Global, old: &Termination) -> Result<Applied, ApplyFault>
         ensures merged { IsMerged self.old.rules.now self.old.descriptors.now old.now result }
         ensures rules { self.new.rules.now ≡ self.old.rules.now }
         ensures descriptors { self.new.descriptors.now ≡ self.old.descriptors.now }
     {
-        if self.fills_none(old.slot) {
-            if let Some(settings) = self.known(&old.settings)? {
-                return self.applied(alloc, old, settings);
-            }
+        if let Some(applied) = self.known(alloc, old)? {
+            return Ok(applied);
         }
         if self.gathered.is_none() {
             self.gathered = Some(Gathered::by(alloc, self.descriptors)?);
         }
-        let Some(gathered) = &self.gathered else {
+        let Some(sent) = &self.gathered else {
             unreachable!()
         };
-        let (rules, descriptors) = (self.rules, self.descriptors);
-        let applied = merge(alloc, rules, descriptors, gathered, old, &self.after)?;
+        let applied = merge(alloc, self.rules, sent, old, &self.after)?;
         self.keep(old, &applied.record)?;
         Ok(applied)
     }

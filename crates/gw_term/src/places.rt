@@ -1,7 +1,7 @@
 //! Four places by the number of a stream, and four by the kind of a tail.
 
 ghost use Rattle.std.specs.Prelude.{◌≡◌};
-ghost use Rattle.gw_term.specs.Places.{put_number, put_kind};
+ghost use Rattle.gw_term.specs.Places.{put_number, at_kind, put_kind};
 
 use gw_desc::KeptKind;
 
@@ -19,8 +19,18 @@ pub struct PerStream<T> {
 }
 
 impl<T: Copy + Drop> PerStream<T> {
+    /// What stands in the place of a stream, whose number is 1 to 4.
+    pub(crate) fn at(&self, number: u8) -> T {
+        match number {
+            1 => self.first,
+            2 => self.second,
+            3 => self.third,
+            _ => self.fourth,
+        }
+    }
+
     /// This in the place of a stream; there is none for a number that no stream has.
-    pub(crate) fn put(&mut self, number: u16, value: T)
+    pub(crate) fn put(&mut self, number: u8, value: T)
         ensures { self.new ≡ put_number number value self.old }
     {
         match number {
@@ -47,6 +57,18 @@ pub struct PerKind<T> {
 }
 
 impl<T: Copy + Drop> PerKind<T> {
+    /// What stands in the place of a kind.
+    pub(crate) fn at(&self, kind: KeptKind) -> T
+        ensures { result ≡ at_kind kind self.now }
+    {
+        match kind {
+            KeptKind::Events => self.events,
+            KeptKind::Signals => self.signals,
+            KeptKind::DigitMap => self.digit_map,
+            KeptKind::EventBuffer => self.event_buffer,
+        }
+    }
+
     /// This in the place of a kind.
     pub(crate) fn put(&mut self, kind: KeptKind, value: T)
         ensures { self.new ≡ put_kind kind value self.old }

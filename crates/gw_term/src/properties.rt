@@ -1,15 +1,13 @@
-//! Properties: how one takes its place in a list, and what the TerminationStates of descriptors set.
+//! Properties: how one takes its place in a list.
 
 ghost use Rattle.std.specs.Prelude.{◌≡◌, ◌≤◌, length};
-ghost use Rattle.std.specs.List.{flat_map};
-ghost use Rattle.gw_term.specs.Merge.{property_place, put_property, service_after, last_service, merged_service, states_in, states_in_part, media_parts, each};
+ghost use Rattle.gw_term.specs.Merge.{property_place, put_property, each};
 ghost use Rattle.gw_term.specs.Applies.{Becomes, Yields};
 
 use crate::copies::copied_properties;
 use crate::fault::ApplyFault;
 use crate::held::HeldProperty;
-use gw_base::{Code, Items, Service, Span};
-use gw_desc::{Descriptor, MediaPart, Property, is_service_states, service_set_by};
+use gw_base::{Code, Items};
 use std::alloc::Global;
 
 /// How many properties a list may hold (own to this profile).
@@ -59,26 +57,6 @@ pub(crate) fn put_properties(
     Ok(())
 }
 
-/// The properties of a part of a Media, if it is a TerminationState.
-pub(crate) fn states_in_part<'a, 'b>(part: &'b MediaPart<'a>) -> &'b [Property<Span<'a>>]
-    ensures { result.now ≡ states_in_part part.now }
-{
-    match part {
-        MediaPart::TerminationState(properties) => properties.as_slice(),
-        _ => &[],
-    }
-}
-
-/// The parts of a Media.
-pub(crate) fn media_parts<'a, 'b>(descriptor: &'b Descriptor<'a>) -> &'b [MediaPart<'a>]
-    ensures { result.now ≡ media_parts descriptor.now }
-{
-    match descriptor {
-        Descriptor::Media(parts) => parts.as_slice(),
-        _ => &[],
-    }
-}
-
 /// The properties after those that are sent.
 pub(crate) fn merged_properties(
     alloc: Global,
@@ -90,47 +68,4 @@ pub(crate) fn merged_properties(
     let mut list = copied_properties(alloc, old)?;
     put_properties(alloc, sent, &mut list)?;
     Ok(list)
-}
-
-/// The service state after a property.
-fn service_after(property: &Property<Span<'_>>, old: Service) -> Service
-    ensures { result ≡ service_after property.now old }
-{
-    if is_service_states(property.name.as_bytes()) {
-        service_set_by(property).unwrap_or(old)
-    } else {
-        old
-    }
-}
-
-fn last_service(properties: &[Property<Span<'_>>], old: Service) -> Service
-    ensures { result ≡ last_service properties.now old }
-{
-    let mut service = old;
-    for property in properties {
-        service = service_after(property, service);
-    }
-    service
-}
-
-fn last_service_of(parts: &[MediaPart<'_>], old: Service) -> Service
-    ensures { result ≡ last_service (flat_map states_in_part parts.now) old }
-{
-    let mut service = old;
-    for part in parts {
-        service = last_service(states_in_part(part), service);
-    }
-    service
-}
-
-/// The service state after the descriptors.
-#[tactic(auto, unfolding(crate::specs::Merge::merged_service))]
-pub(crate) fn merged_service(descriptors: &[Descriptor<'_>], old: Service) -> Service
-    ensures { result ≡ merged_service descriptors.now old }
-{
-    let mut service = old;
-    for descriptor in descriptors {
-        service = last_service_of(media_parts(descriptor), service);
-    }
-    service
 }

@@ -1,14 +1,14 @@
 //! What was set of a termination: its properties, its streams and its tails, in a short list that copies share.
 
-ghost use Rattle.std.specs.Prelude.{◌≡◌, ◌≤◌, IfOk, OnOk};
-ghost use Rattle.std.specs.Option.{option_copied};
-ghost use Rattle.gw_term.specs.Places.{at_number, at_kind};
+ghost use Rattle.std.specs.Prelude.{◌≡◌, IfOk, OnOk};
+ghost use Rattle.gw_term.specs.Places.{numbers_read, kinds_read};
 ghost use Rattle.gw_term.specs.Settings.{nothing_set, set_by, with_setting};
 
 use crate::held::{HeldProperty, HeldTail};
+use crate::places::{PerKind, PerStream};
 use crate::record::Stream;
 use gw_base::{Items, Short};
-use gw_desc::{KeptKind, same_kept};
+use gw_desc::KeptKind;
 use std::alloc::{AllocError, Global};
 use std::marker::Model;
 use std::sync::Arc;
@@ -72,6 +72,17 @@ impl Model for Settings {
     ghost view = { λ s. unwrap_or (option_map (λ block. arc_value block) s.block) nothing_set };
 }
 
+/// What is set of a termination, by its place.
+#[derive(Clone, Copy)]
+pub struct ByPlace<'a> {
+    /// The properties of its TerminationState but ServiceStates.
+    pub properties: &'a [HeldProperty],
+    /// The streams that it has.
+    pub streams: PerStream<Option<&'a Stream>>,
+    /// The tails that it keeps.
+    pub tails: PerKind<Option<&'a HeldTail>>,
+}
+
 /// The block has an owner less. Not inlined, since most terminations have none.
 #[inline(never)]
 fn release(block: Arc<SettingList>) {
@@ -121,59 +132,37 @@ impl Settings {
         }
     }
 
-    /// The properties of its TerminationState but ServiceStates.
-    pub(crate) fn properties(&self) -> &[HeldProperty]
-        ensures { result.now ≡ self.now.properties }
+    /// What is set, by its place, in one pass.
+    #[inline]
+    pub(crate) fn by_place(&self) -> ByPlace<'_>
+        ensures properties { result.properties.now ≡ self.now.properties }
+        ensures streams { numbers_read result.streams ≡ self.now.streams }
+        ensures tails { kinds_read result.tails ≡ self.now.tails }
     {
-        let mut found: &[HeldProperty] = &[];
+        let mut found = ByPlace {
+            properties: &[],
+            streams: PerStream {
+                first: None,
+                second: None,
+                third: None,
+                fourth: None,
+            },
+            tails: PerKind {
+                events: None,
+                signals: None,
+                digit_map: None,
+                event_buffer: None,
+            },
+        };
         for setting in self.list() {
-            if let Setting::Properties(list) = setting {
-                found = list.as_slice();
+            match setting {
+                Setting::Properties(list) => found.properties = list.as_slice(),
+                Setting::Stream(number, stream) => found.streams.put(*number, Some(stream)),
+                Setting::Tail(kind, tail) => found.tails.put(*kind, Some(tail)),
             }
         }
         found
     }
-
-    /// The stream of this number, if it has one.
-    pub(crate) fn stream(&self, number: u8) -> Option<&Stream>
-        requires first { 1 ≤ number }
-        requires last { number ≤ 4 }
-        ensures { option_copied result ≡ at_number number self.now.streams }
-    {
-        stream_in(self.list(), number)
-    }
-
-    /// What it keeps of a kind of tails, if anything.
-    pub(crate) fn tail(&self, kind: KeptKind) -> Option<&HeldTail>
-        ensures { option_copied result ≡ at_kind kind self.now.tails }
-    {
-        let mut found = None;
-        for setting in self.list() {
-            if let Setting::Tail(other, tail) = setting {
-                if same_kept(kind, *other) {
-                    found = Some(tail);
-                }
-            }
-        }
-        found
-    }
-}
-
-/// The stream of this number that a list sets, if it sets one.
-fn stream_in(list: &[Setting], number: u8) -> Option<&Stream>
-    requires first { 1 ≤ number }
-    requires last { number ≤ 4 }
-    ensures { option_copied result ≡ at_number number (set_by list.now).streams }
-{
-    let mut found = None;
-    for setting in list {
-        if let Setting::Stream(other, stream) = setting {
-            if *other == number {
-                found = Some(stream);
-            }
-        }
-    }
-    found
 }
 
 impl SettingList {
@@ -192,15 +181,6 @@ impl SettingList {
     {
         self.list.push(setting)?;
         Ok(())
-    }
-
-    /// The stream of this number, if it is set.
-    pub(crate) fn stream(&self, number: u8) -> Option<&Stream>
-        requires first { 1 ≤ number }
-        requires last { number ≤ 4 }
-        ensures { option_copied result ≡ at_number number self.now.streams }
-    {
-        stream_in(self.list.as_slice(), number)
     }
 
     /// The settings, in a block that copies share. Where there are none, there is no block.

@@ -1,27 +1,38 @@
 //! Streams: what becomes of each by what is sent to it.
 
-ghost use Rattle.std.specs.Prelude.{◌≡◌, ◌≤◌, IfOk, OnOk, None, Some, false, true};
-ghost use Rattle.std.specs.Option.{is_some, option_copied};
-ghost use Rattle.gw_term.specs.Named.{or_named};
-ghost use Rattle.std.specs.List.{list_any};
-ghost use Rattle.gw_term.specs.Gathered.{applied, filled_after, local_after, remote_after, IsSentTo};
-ghost use Rattle.gw_term.specs.Merge.{local_text, is_filled, begun, is_named_in, merged_stream};
-ghost use Rattle.gw_term.specs.Applies.{IsStreamMerged, Yields};
-ghost use Rattle.gw_term.specs.Places.{at_number, put_number};
+ghost use Rattle.std.specs.Prelude.{◌≡◌, ◌≤◌, IfOk, Some, false};
+ghost use Rattle.std.specs.Option.{option_copied, option_map, unwrap_or};
+ghost use Rattle.gw_term.specs.Gathered.{applied, filled_after, local_after, nothing_sent, remote_after, with_merging, with_stream_of, with_streams_of};
+ghost use Rattle.gw_term.specs.Merge.{local_text, is_filled, begun};
+ghost use Rattle.gw_term.specs.Applies.{Becomes, Yields};
+ghost use Rattle.gw_term.specs.Places.{numbers_read};
 
+use crate::apply::Filled;
 use crate::copies::copied_properties;
 use crate::fault::ApplyFault;
-use crate::gathered::SentStream;
+use crate::gathered::{SentMedia, SentStream};
+use crate::places::PerStream;
 use crate::properties::put_properties;
 use crate::record::Stream;
-use crate::sent::Sent;
-use crate::settings::{Setting, SettingList, Settings};
+use crate::settings::{Setting, SettingList};
+use crate::target::Target;
 use crate::text::Text;
 use gw_base::{Held, Items, NoMemory, Span};
 use gw_desc::{Mode, fill_local};
+use gw_reply::FilledStream;
 use std::alloc::{AllocError, Global};
 
+/// What a merge sets, and the streams whose Local it filled, in rising order.
+#[derive(Drop)]
+pub struct Outcome {
+    /// What is set.
+    pub settings: SettingList,
+    /// The streams whose Local was filled.
+    pub filled: Filled,
+}
+
 /// A stream while descriptors are merged into it.
+#[derive(Drop)]
 pub(crate) struct Merging {
     /// The stream.
     pub stream: Stream,
@@ -29,31 +40,11 @@ pub(crate) struct Merging {
     pub filled: bool,
 }
 
-// By hand, as that of a stream.
-impl Drop for Merging {
-    fn drop(self) {
-        let Merging {
-            stream: _,
-            filled: _,
-        } = self;
-    }
-}
-
-impl Merging {
-    /// The stream alone.
-    pub(crate) fn into_stream(self) -> Stream
-        ensures { result ≡ self.stream }
-    {
-        let Merging { stream, filled: _ } = self;
-        stream
-    }
-}
-
 /// A Local that is sent, filled where the termination has a slot, and whether it was.
 #[inline(never)]
 fn filled_local(
     alloc: Global,
-    target: &Sent<'_, '_, '_>,
+    target: &Target<'_>,
     number: u8,
     text: &[u8],
 ) -> Result<(Text, bool), NoMemory>
@@ -75,7 +66,7 @@ fn filled_local(
 /// The Local after what is sent, and whether it was filled.
 fn local_after(
     alloc: Global,
-    target: &Sent<'_, '_, '_>,
+    target: &Target<'_>,
     number: u8,
     sent: &Option<Span<'_>>,
     old: &Text,
@@ -94,14 +85,15 @@ fn local_after(
 /// The Remote after what is sent.
 fn remote_after(
     alloc: Global,
+    target: &Target<'_>,
+    number: u8,
     sent: &Option<Span<'_>>,
-    made: Option<&Text>,
     old: &Text,
 ) -> Result<Text, AllocError>
     ensures { IfOk result (λ remote. remote ≡ remote_after sent.now old.now) }
 {
     match sent {
-        Some(text) => Text::of_or(alloc, text.as_bytes(), made),
+        Some(text) => Text::of_or(alloc, text.as_bytes(), target.made_remote(number)),
         None => old.copied(alloc),
     }
 }
@@ -109,7 +101,7 @@ fn remote_after(
 /// A stream after what is sent to it.
 fn applied(
     alloc: Global,
-    target: &Sent<'_, '_, '_>,
+    target: &Target<'_>,
     number: u8,
     sent: &SentStream<'_>,
     old: &Stream,
@@ -121,7 +113,7 @@ fn applied(
     let mut properties = copied_properties(alloc, old.properties.as_slice())?;
     put_properties(alloc, sent.properties.as_slice(), &mut properties)?;
     let (local, filled) = local_after(alloc, target, number, &sent.local, &old.local)?;
-    let remote = remote_after(alloc, &sent.remote, target.made_remote(number), &old.remote)?;
+    let remote = remote_after(alloc, target, number, &sent.remote, &old.remote)?;
     Ok(Merging {
         stream: Stream {
             mode: sent.mode.unwrap_or(old.mode),
@@ -136,7 +128,7 @@ fn applied(
 /// The same of one that is there, or of a new one, which is in mode Inactive, and nothing else.
 fn applied_or_new(
     alloc: Global,
-    target: &Sent<'_, '_, '_>,
+    target: &Target<'_>,
     number: u8,
     sent: &SentStream<'_>,
     old: Option<&Stream>,
@@ -159,57 +151,67 @@ fn applied_or_new(
     }
 }
 
-/// The stream of this number, which is named or there, after the descriptors is set; whether its Local was filled.
-/// Not inlined, since most streams are neither.
+/// The stream of this number, which is named or there, is set after what is sent to it, and its Local goes last where
+/// it was filled. Not inlined, since most streams are neither.
 #[inline(never)]
-#[tactic(auto, using(crate::proofs::Gathering::merged_there))]
 fn merge_there(
     alloc: Global,
-    target: &Sent<'_, '_, '_>,
+    target: &Target<'_>,
     number: u8,
     sent: &Option<Held<SentStream<'_>>>,
-    old: &Settings,
-    new: &mut SettingList,
-) -> Result<bool, ApplyFault>
+    old: Option<&Stream>,
+    outcome: &mut Outcome,
+) -> Result<(), ApplyFault>
     requires first { 1 ≤ number }
     requires last { number ≤ 4 }
-    requires sent { IsSentTo number target.now.descriptors.now sent.now }
-    requires there { or_named (is_some (at_number number old.now.streams)) (list_any (is_named_in number) target.now.descriptors.now) ≡ true }
-    ensures merged { IsStreamMerged result (at_number number new.new.streams) (merged_stream target.now.rules.now target.now.slot number target.now.descriptors.now (at_number number old.now.streams)) }
-    ensures rest { OnOk result (new.new ≡ record new.old { streams = put_number number (at_number number new.new.streams) new.old.streams }) }
+    ensures { Becomes result outcome.new (option_map (λ m. with_merging number m outcome.old) (applied target.now.rules.now target.now.slot number (unwrap_or sent.now nothing_sent) (begun (option_copied old.entry)))) }
 {
-    let old = old.stream(number);
-    let merging = match sent {
+    let Merging { stream, filled } = match sent {
         Some(sent) => applied_or_new(alloc, target, number, sent.get(), old)?,
         None => applied_or_new(alloc, target, number, &SentStream::nothing(alloc), old)?,
     };
-    let filled = merging.filled;
-    new.push(Setting::Stream(number, merging.into_stream()))?;
-    Ok(filled)
+    if filled {
+        if let Some(local) = stream.local.to_reply(alloc)? {
+            outcome.filled.push(FilledStream { number, local })?;
+        }
+    }
+    outcome.settings.push(Setting::Stream(number, stream))?;
+    Ok(())
 }
 
-/// The stream of this number after the descriptors is set, if there is one then; whether its Local was filled.
-#[inline]
-#[tactic(auto, unfolding(crate::specs::Merge::merged_stream))]
-pub(crate) fn merge_stream(
+/// The same, where one that is neither named nor there stays so.
+#[inline(always)]
+fn merge_stream(
     alloc: Global,
-    target: &Sent<'_, '_, '_>,
+    target: &Target<'_>,
     number: u8,
     sent: &Option<Held<SentStream<'_>>>,
-    is_there: bool,
-    old: &Settings,
-    new: &mut SettingList,
-) -> Result<bool, ApplyFault>
+    old: Option<&Stream>,
+    outcome: &mut Outcome,
+) -> Result<(), ApplyFault>
     requires first { 1 ≤ number }
     requires last { number ≤ 4 }
-    requires sent { IsSentTo number target.now.descriptors.now sent.now }
-    requires there { is_there ≡ or_named (is_some (at_number number old.now.streams)) (list_any (is_named_in number) target.now.descriptors.now) }
-    requires empty { at_number number new.old.streams ≡ None }
-    ensures merged { IsStreamMerged result (at_number number new.new.streams) (merged_stream target.now.rules.now target.now.slot number target.now.descriptors.now (at_number number old.now.streams)) }
-    ensures rest { OnOk result (new.new ≡ record new.old { streams = put_number number (at_number number new.new.streams) new.old.streams }) }
+    ensures { Becomes result outcome.new (with_stream_of target.now.rules.now target.now.slot number sent.now (option_copied old.entry) outcome.old) }
 {
-    if is_there {
-        return merge_there(alloc, target, number, sent, old, new);
+    match (sent, old) {
+        (Some(_), _) => merge_there(alloc, target, number, sent, old, outcome),
+        (None, Some(_)) => merge_there(alloc, target, number, sent, old, outcome),
+        (None, None) => Ok(()),
     }
-    Ok(false)
+}
+
+/// The streams after what is sent to them are set.
+pub(crate) fn merge_streams(
+    alloc: Global,
+    target: &Target<'_>,
+    sent: &SentMedia<'_>,
+    old: &PerStream<Option<&Stream>>,
+    outcome: &mut Outcome,
+) -> Result<(), ApplyFault>
+    ensures { Becomes result outcome.new (with_streams_of target.now.rules.now target.now.slot sent.now (numbers_read old.now) outcome.old) }
+{
+    merge_stream(alloc, target, 1, &sent.first, old.first, outcome)?;
+    merge_stream(alloc, target, 2, &sent.second, old.second, outcome)?;
+    merge_stream(alloc, target, 3, &sent.third, old.third, outcome)?;
+    merge_stream(alloc, target, 4, &sent.fourth, old.fourth, outcome)
 }

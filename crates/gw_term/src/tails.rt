@@ -2,20 +2,16 @@
 
 ghost use Rattle.std.specs.Prelude.{◌≡◌, bytes_eq, codes, IfOk, OnOk, None};
 ghost use Rattle.gw_text.specs.SpaceScan.{skip};
-ghost use Rattle.std.specs.List.{list_any};
-ghost use Rattle.std.specs.Option.{is_some};
-ghost use Rattle.gw_term.specs.Named.{or_named};
-ghost use Rattle.gw_desc.specs.Checks.{is_kept};
-ghost use Rattle.gw_term.specs.Places.{at_kind, put_kind, of_kinds};
-ghost use Rattle.gw_term.specs.Merge.{has_blank_inside, is_blank_group, kept_tail, merged_tail, tail_after};
+ghost use Rattle.std.specs.Option.{option_copied};
+ghost use Rattle.gw_term.specs.Gathered.{tail_of_sent, tails_after};
+ghost use Rattle.gw_term.specs.Places.{at_kind, kinds_read, of_kinds, put_kind};
+ghost use Rattle.gw_term.specs.Merge.{has_blank_inside, is_blank_group, kept_tail};
 
-use crate::copies::put;
 use crate::held::HeldTail;
 use crate::places::PerKind;
-use crate::sent::Sent;
 use crate::settings::{Setting, SettingList, Settings};
 use gw_base::Span;
-use gw_desc::{Descriptor, KeptKind, Tail, same_kept};
+use gw_desc::{KeptKind, Tail};
 use gw_text::Cursor;
 use std::alloc::{AllocError, Global};
 
@@ -63,106 +59,67 @@ fn kept_tail(
     Ok(Some(HeldTail::of(alloc, tail)?.shared_with(alloc, made)?))
 }
 
-/// The tail after a descriptor.
-fn put_tail(
-    alloc: Global,
-    kind: KeptKind,
-    descriptor: &Descriptor<'_>,
-    made: Option<&HeldTail>,
-    tail: &mut Option<HeldTail>,
-) -> Result<(), AllocError>
-    ensures { OnOk result (tail.new ≡ tail_after kind descriptor.now tail.old) }
-{
-    if let Descriptor::Keep(other, sent) = descriptor {
-        if same_kept(kind, *other) {
-            put(tail, kept_tail(alloc, sent, made)?);
-        }
-    }
-    Ok(())
-}
-
-/// The tail after descriptors.
-fn put_tails(
-    alloc: Global,
-    sent: &Sent<'_, '_, '_>,
-    kind: KeptKind,
-    tail: &mut Option<HeldTail>,
-) -> Result<(), AllocError>
-    ensures { OnOk result (tail.new ≡ merged_tail kind sent.now.descriptors.now tail.old) }
-{
-    let made = sent.made.tail(kind);
-    for descriptor in sent.descriptors {
-        put_tail(alloc, kind, descriptor, made, tail)?;
-    }
-    Ok(())
-}
-
-/// The tail of this kind after the descriptors is set, if there is one then. Not inlined, since most tails are
-/// neither named nor there.
+/// The tail of this kind after what is sent is set, if there is one then. Not inlined, since most tails are neither
+/// sent nor there.
 #[inline(never)]
 fn merge_there(
     alloc: Global,
-    sent: &Sent<'_, '_, '_>,
+    made: &Settings,
     kind: KeptKind,
-    old: &Settings,
+    sent: Option<&Tail<Span<'_>>>,
+    old: Option<&HeldTail>,
     new: &mut SettingList,
 ) -> Result<(), AllocError>
     requires { at_kind kind new.old.tails ≡ None }
-    ensures { OnOk result (new.new ≡ record new.old { tails = put_kind kind (merged_tail kind sent.now.descriptors.now (at_kind kind old.now.tails)) new.old.tails }) }
+    ensures { OnOk result (new.new ≡ record new.old { tails = put_kind kind (tail_of_sent (option_copied sent.entry) (option_copied old.entry)) new.old.tails }) }
 {
-    let mut tail = match old.tail(kind) {
-        Some(tail) => Some(tail.copied(alloc)?),
-        None => None,
+    let tail = match (sent, old) {
+        (Some(sent), _) => kept_tail(alloc, sent, made.by_place().tails.at(kind))?,
+        (None, Some(old)) => Some(old.copied(alloc)?),
+        (None, None) => None,
     };
-    put_tails(alloc, sent, kind, &mut tail)?;
     if let Some(tail) = tail {
         new.push(Setting::Tail(kind, tail))?;
     }
     Ok(())
 }
 
-/// The same, where it is known whether the tail is named or there.
+/// The same, where one that is neither sent nor there takes no call.
 #[inline]
-#[tactic(auto, using(crate::proofs::Naming::tail_stays))]
 fn merge_tail(
     alloc: Global,
-    sent: &Sent<'_, '_, '_>,
+    made: &Settings,
     kind: KeptKind,
-    is_there: bool,
-    old: &Settings,
+    sent: Option<&Tail<Span<'_>>>,
+    old: Option<&HeldTail>,
     new: &mut SettingList,
 ) -> Result<(), AllocError>
-    requires there { is_there ≡ or_named (is_some (at_kind kind old.now.tails)) (list_any (is_kept kind) sent.now.descriptors.now) }
-    requires empty { at_kind kind new.old.tails ≡ None }
-    ensures { OnOk result (new.new ≡ record new.old { tails = put_kind kind (merged_tail kind sent.now.descriptors.now (at_kind kind old.now.tails)) new.old.tails }) }
+    requires { at_kind kind new.old.tails ≡ None }
+    ensures { OnOk result (new.new ≡ record new.old { tails = put_kind kind (tail_of_sent (option_copied sent.entry) (option_copied old.entry)) new.old.tails }) }
 {
-    if is_there {
-        return merge_there(alloc, sent, kind, old, new);
+    if sent.is_none() && old.is_none() {
+        return Ok(());
     }
-    Ok(())
+    merge_there(alloc, made, kind, sent, old, new)
 }
 
-/// The tails after the descriptors are set, where none are.
+/// The tails after what is sent are set, where none are. They share long texts with what was made before.
 pub(crate) fn merge_tails(
     alloc: Global,
-    sent: &Sent<'_, '_, '_>,
-    there: &PerKind<bool>,
-    old: &Settings,
+    made: &Settings,
+    sent: &PerKind<Option<&Tail<Span<'_>>>>,
+    old: &PerKind<Option<&HeldTail>>,
     new: &mut SettingList,
 ) -> Result<(), AllocError>
-    requires there { there.now ≡ of_kinds (λ kind. or_named (is_some (at_kind kind old.now.tails)) (list_any (is_kept kind) sent.now.descriptors.now)) }
-    requires empty { new.old.tails ≡ of_kinds (λ _. None) }
-    ensures { OnOk result (new.new ≡ record new.old { tails = of_kinds (λ kind. merged_tail kind sent.now.descriptors.now (at_kind kind old.now.tails)) }) }
+    requires { new.old.tails ≡ of_kinds (λ _. None) }
+    ensures { OnOk result (new.new ≡ record new.old { tails = tails_after (kinds_read sent.now) (kinds_read old.now) }) }
 {
-    merge_tail(alloc, sent, KeptKind::Events, there.events, old, new)?;
-    merge_tail(alloc, sent, KeptKind::Signals, there.signals, old, new)?;
-    merge_tail(alloc, sent, KeptKind::DigitMap, there.digit_map, old, new)?;
-    merge_tail(
-        alloc,
-        sent,
-        KeptKind::EventBuffer,
-        there.event_buffer,
-        old,
-        new,
-    )
+    let kind = KeptKind::Events;
+    merge_tail(alloc, made, kind, sent.events, old.events, new)?;
+    let kind = KeptKind::Signals;
+    merge_tail(alloc, made, kind, sent.signals, old.signals, new)?;
+    let kind = KeptKind::DigitMap;
+    merge_tail(alloc, made, kind, sent.digit_map, old.digit_map, new)?;
+    let kind = KeptKind::EventBuffer;
+    merge_tail(alloc, made, kind, sent.event_buffer, old.event_buffer, new)
 }

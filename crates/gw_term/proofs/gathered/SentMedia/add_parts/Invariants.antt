@@ -1,0 +1,7 @@
+use Rattle.std.proofs.Common.{◌≡◌, drop}
+use Rattle.gw_term.specs.Gathered.{in_turn, with_media_part}
+use Rattle.gw_term.proofs.gathered.SentMedia.add_parts.Given as goal
+
+-- what is left does the rest
+abbrev pub invariant-loop-part : goal.invariant-loop-part
+invariant-loop-part l = in_turn with_media_part l.parts l.fn.self ≡ in_turn with_media_part (drop l.part-index l.parts) l.self

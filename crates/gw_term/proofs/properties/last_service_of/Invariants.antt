@@ -1,8 +1,0 @@
-use Rattle.std.proofs.Common.{◌≡◌, drop}
-use Rattle.std.specs.List.{flat_map}
-use Rattle.gw_term.specs.Merge.{last_service, states_in_part}
-use Rattle.gw_term.proofs.properties.last_service_of.Given as goal
-
--- what is left does the rest
-abbrev pub invariant-loop-part : goal.invariant-loop-part
-invariant-loop-part l = last_service (flat_map states_in_part l.parts) l.fn.old ≡ last_service (flat_map states_in_part (drop l.part-index l.parts)) l.service

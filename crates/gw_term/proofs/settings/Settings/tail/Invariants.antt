@@ -1,9 +1,0 @@
-use Rattle.std.proofs.Common.{◌≡◌, take}
-use Rattle.std.specs.Option.{option_copied}
-use Rattle.gw_term.specs.Places.{at_kind}
-use Rattle.gw_term.specs.Settings.{set_by}
-use Rattle.gw_term.proofs.settings.Settings.tail.Given as goal
-
--- what those so far set
-abbrev pub invariant-loop-setting : goal.invariant-loop-setting
-invariant-loop-setting l = option_copied l.found ≡ at_kind l.kind (set_by (take l.setting-index l.setting-items)).tails
