@@ -14,6 +14,7 @@ use crate::row::Row;
 use gw_base::NoMemory;
 use slab::Slab;
 use std::alloc::Global;
+use std::cell::Cell;
 use std::collections::{BTreeMap, btree_map};
 use std::marker::Model;
 
@@ -57,11 +58,12 @@ pub(crate) fn set_guide(guides: &mut [Guide], i: usize, guide: Guide) {
 }
 
 /// Rows by key, in the order of the keys: the index has the number of the row of each key. The place of a row that was
-/// dropped is used again.
+/// dropped is used again. The key that was found last is found again without a search.
 #[derive(Drop)]
 pub(crate) struct Rows<K: Ord, T> {
     index: BTreeMap<K, usize>,
     rows: Slab<KeyedRow<K, T>>,
+    last: Cell<Guide>,
 }
 
 impl<K: Ord, T> Model for Rows<K, T> {
@@ -86,10 +88,12 @@ impl<K, T> KeyedRow<K, T> {
     }
 }
 
-/// The number of the row of a key, if it has one: the guide where it is right, and else what the index has.
+/// The number of the row of a key, if it has one: the guide where it is right, and else what the index has, which is
+/// then what was found last.
 fn number_of<K: Ord, T>(
     index: &BTreeMap<K, usize>,
     rows: &Slab<KeyedRow<K, T>>,
+    last: &Cell<Guide>,
     guide: Guide,
     key: &K,
 ) -> Option<usize>
@@ -103,7 +107,10 @@ fn number_of<K: Ord, T>(
         }
     }
     match index.get(key) {
-        Some(number) => Some(*number),
+        Some(number) => {
+            last.set(Guide::at(*number));
+            Some(*number)
+        }
         None => None,
     }
 }
@@ -118,6 +125,7 @@ impl<K: Ord, T> Rows<K, T> {
         Rows {
             index: BTreeMap::new(alloc),
             rows: Slab::new(alloc),
+            last: Cell::new(Guide::none()),
         }
     }
 
@@ -129,6 +137,7 @@ impl<K: Ord, T> Rows<K, T> {
         Ok(Rows {
             index: BTreeMap::new(alloc),
             rows,
+            last: Cell::new(Guide::none()),
         })
     }
 
@@ -158,25 +167,26 @@ impl<K: Ord, T> Rows<K, T> {
     pub(crate) fn get_at(&self, guide: Guide, key: &K) -> Option<&Row<T>>
         ensures { option_copied result ≡ found K.cmp self.now key.now }
     {
-        match number_of(&self.index, &self.rows, guide, key) {
+        match number_of(&self.index, &self.rows, &self.last, guide, key) {
             Some(number) => Some(&self.rows[number].row),
             None => None,
         }
     }
 
-    /// What stands at a key.
+    /// What stands at a key, which is not searched for where it was found last.
     pub(crate) fn get(&self, key: &K) -> Option<&Row<T>>
         ensures value { option_copied result ≡ found K.cmp self.now key.now }
     {
-        self.get_at(Guide::none(), key)
+        self.get_at(self.last.get(), key)
     }
 
-    /// What stands at a key, to be changed.
+    /// What stands at a key, to be changed. It is not searched for where it was found last.
     pub(crate) fn get_mut(&mut self, key: &K) -> Option<&mut Row<T>>
         ensures* writes_back { sem 𝓛 (LendsFound K.row T.row K.Ord self.entry key.now result) }
         ensures value { option_copied_mut result ≡ found K.cmp self.old key.now }
     {
-        self.get_mut_at(Guide::none(), key)
+        let guide = self.last.get();
+        self.get_mut_at(guide, key)
     }
 
     /// What stands at a key, to be changed. The guide is looked at first, as by `get_at`.
@@ -184,7 +194,7 @@ impl<K: Ord, T> Rows<K, T> {
         ensures* writes_back { sem 𝓛 (LendsFound K.row T.row K.Ord self.entry key.now result) }
         ensures value { option_copied_mut result ≡ found K.cmp self.old key.now }
     {
-        match number_of(&self.index, &self.rows, guide, key) {
+        match number_of(&self.index, &self.rows, &self.last, guide, key) {
             Some(number) => Some(self.rows[number].row_mut()),
             None => None,
         }
@@ -213,6 +223,7 @@ impl<K: Ord + Copy + Drop, T: Drop> Rows<K, T> {
         let before = self.index.insert(key, number)?;
         let row = row.numbered(number);
         self.rows.insert_reserved(KeyedRow { key, row });
+        self.last.set(Guide::at(number));
         let Some(before) = before else {
             return Ok(None);
         };
