@@ -38,7 +38,7 @@ Lawful rules v place r (Joins n new) m = (place ≡ Some n) × (r.place ≡ None
 Lawful rules v place r (Crosses p n new) m = (place ≡ Some n) × (r.place ≡ Some p) × (nat_eq p.0 n.0 ≡ false) × (new.place ≡ Some n) × IsRewritten r new × (is_full rules n m ≡ false) × (is_move v ≡ true)
 Lawful rules v place r (Leaves n o) m = (place ≡ Some n) × (r.place ≡ Some n) × (o ≡ what_remains r)
 
-same_there : (a b : Option CtxNum) → same_place a b ≡ true → a ≡ b
+pub same_there : (a b : Option CtxNum) → same_place a b ≡ true → a ≡ b
 same_there None None h = refl
 same_there None (Some b) h = absurd cc
 same_there (Some a) None h = absurd cc

@@ -11,6 +11,7 @@ use Rattle.gw_base.specs.declared.key.Key.TheVariants.{Term, Ctx}
 use Rattle.gw_base.specs.NameLists.{is_in}
 use Rattle.gw_table.specs.Maps.{Maps, term, ctx, names, members_of, place_of}
 use Rattle.gw_table.specs.Reserved.{slot_name}
+use Rattle.gw_table.specs.WellFormed.{IsSound}
 use Rattle.gw_table.specs.Parts.{PartKeys, holds, HoldsPlace}
 use Rattle.gw_cmd.specs.declared.change.Change.{Change}
 use Rattle.gw_cmd.specs.declared.change.Change.TheVariants.{Stays, Becomes, Joins, Crosses, Leaves}
@@ -18,6 +19,8 @@ use Rattle.gw_refusal.specs.declared.at.At.{At}
 use Rattle.gw_refusal.specs.Requested.{is_move}
 use Rattle.gw_refusal.specs.Places.{place_at}
 use Rattle.gw_refusal.specs.Targets.{targets_of}
+use Rattle.gw_cmd.specs.declared.task.Task.{Task}
+use Rattle.gw_cmd.specs.Tasks.{task_place, targets_in, Does}
 
 -- a Move needs the key of the context that the termination is in
 abbrev pub HoldsMoved : PartKeys → Verb → Option CtxNum → Type 0
@@ -34,6 +37,12 @@ Suits rules keys t (Becomes r) m = holds keys (Term t) ≡ true
 Suits rules keys t (Joins n r) m = (holds keys (Term t) ≡ true) × (holds keys (Ctx n) ≡ true) × HasRoom rules n t m
 Suits rules keys t (Crosses p n r) m = (holds keys (Term t) ≡ true) × (holds keys (Ctx p) ≡ true) × (holds keys (Ctx n) ≡ true) × HasRoom rules n t m × (nat_eq n.0 p.0 ≡ false)
 Suits rules keys t (Leaves n o) m = (holds keys (Term t) ≡ true) × (holds keys (Ctx n) ≡ true)
+
+-- some of these terminations have left the context that the task takes them out of, and it does the same to all of them
+pub record LeaveFirst (keys : PartKeys) (task : Task) (named : List (List ℕ)) (old new : Maps) : Type 0 where
+  pub same : (rules : Rules) (c : Command) → Does task c → targets_in rules (task_place task) c named new ≡ targets_in rules (task_place task) c named old
+  pub terms : (t : List ℕ) → term new t ≡ term old t
+  pub sound : IsSound keys new
 
 -- the owned slot has no termination yet
 abbrev pub IsUnused : Option ℕ → Maps → Type 0

@@ -21,7 +21,7 @@ use gw_term::{Applied, Merger, Termination};
 use std::alloc::Global;
 
 /// Whether both are the null context or one context.
-fn is_same_place(a: Option<CtxNum>, b: Option<CtxNum>) -> bool
+pub(crate) fn is_same_place(a: Option<CtxNum>, b: Option<CtxNum>) -> bool
     ensures { result ≡ same_place a b }
 {
     match (a, b) {
