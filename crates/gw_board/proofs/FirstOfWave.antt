@@ -1,5 +1,5 @@
 -- While nothing is open, a wave begins with the first place that is not closed.
-use Rattle.std.proofs.Common.{nat_eq, ◌≡◌, ℕ, zero, suc, ◌+◌, ◌<◌, ◌≤◌, Bool, true, false, cond, ◌&&◌, not, List, [], ◌∷◌, map, filter, length, take, Option, None, Some, sym, ap, refl, ◌∙◌, arith, eqb-true}
+use Rattle.std.proofs.Common.{nat_eq, ◌≡◌, ℕ, zero, suc, ◌+◌, ◌-◌, ◌<◌, ◌≤◌, Bool, true, false, cond, ◌&&◌, not, List, [], ◌∷◌, ◌++◌, map, filter, length, take, Option, None, Some, sym, ap, refl, ◌∙◌, arith, eqb-true}
 use Rattle.std.specs.Prelude.{◌||◌, slice_get}
 use Rattle.std.specs.List.{list_any, range_with_len}
 use Rattle.gw_base.specs.declared.key.Key.{Key}
@@ -17,7 +17,7 @@ use Rattle.gw_board.specs.declared.planned.Planned.{Planned}
 use Rattle.gw_board.proofs.Behind.{filter_end}
 use Rattle.gw_board.proofs.CarriedAlone.{unclosed_pends}
 use Rattle.gw_board.proofs.LeftOut.{other, none_pending}
-use Rattle.gw_board.proofs.Planning.{free_at}
+use Rattle.gw_board.proofs.Planning.{free_at, wave_more}
 
 -- ---- the first number that passes a test
 
@@ -49,7 +49,7 @@ none_pends_before [] (suc i) k h l = refl
 none_pends_before (p ∷ ps) (suc i) zero h l = shut p.standing (neither (not (is_closed p.standing)) (list_any (λ q. not (is_closed q.standing)) (take i ps)) h).0
 none_pends_before (p ∷ ps) (suc i) (suc k) h l = none_pends_before ps i k (neither (not (is_closed p.standing)) (list_any (λ q. not (is_closed q.standing)) (take i ps)) h).1 (omega arith)
 
-not_free : (m : Maps) (earlier : List Place) (o : Option Place) → is_pending_at o ≡ false → is_free m earlier o ≡ false
+pub not_free : (m : Maps) (earlier : List Place) (o : Option Place) → is_pending_at o ≡ false → is_free m earlier o ≡ false
 not_free m earlier None h = refl
 not_free m earlier (Some p) h = ap (λ b. b && not (meets_pending (keys_of p.requested m) m earlier)) h
 
@@ -91,6 +91,18 @@ wave_begins b first none is =
     first_in (free_at (core_of b)) (length b.places) 0 first (omega arith) (omega (arith, below))
     (free_first b.maps (take first b.places) (slice_get b.places first) (unclosed_pends b.places first none is.here) (closed_unmet (take first b.places) is.before b.maps))
     (λ k l. closed_none b.places first k is.before l b.maps)
+
+-- and where nothing behind it is in the wave, it is the whole wave
+pub wave_alone : (b : Seen) (first : ℕ) → NothingIsOpen (core_of b) → IsFirstUnclosed b.places first → ((i : ℕ) → first + 1 ≤ i → i < length b.places → IsNoneOfWave b.maps b.places i) → wave (core_of b) ≡ first ∷ []
+wave_alone b first none is rest =
+    let below : first < length b.places = inside b.places first is.here in
+    let all : (first + 1) + (length b.places - (first + 1)) ≡ length b.places = omega (arith, below) in
+    let free : free_at (core_of b) first ≡ true =
+    free_first b.maps (take first b.places) (slice_get b.places first) (unclosed_pends b.places first none is.here) (closed_unmet (take first b.places) is.before b.maps) in
+    ap (λ k. filter (free_at (core_of b)) (range_with_len 0 k)) (sym all)
+    ∙ filter_end (free_at (core_of b)) (first + 1) (length b.places - (first + 1)) (λ i l m. rest i l (omega (arith, m, all)))
+    ∙ wave_more (core_of b) first
+    ∙ (λ j. none_so_far (core_of b) first is.before j ++ cond (free j) (first ∷ []) [])
 
 pub plan_begins : (b : Seen) (first : ℕ) (planned : List Planned) → NothingIsOpen (core_of b) → IsFirstUnclosed b.places first → IsPlan b planned → slice_get (map (λ (p : Planned). p.place) planned) 0 ≡ Some first
 plan_begins b first planned none is plan = ap (λ (l : List ℕ). slice_get l 0) plan.places ∙ wave_begins b first none is

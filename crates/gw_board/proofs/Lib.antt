@@ -11,6 +11,7 @@ pub mod FirstOfAll
 pub mod FirstOfWave
 pub mod GoingOn
 pub mod InTurn
+pub mod Joining
 pub mod KeptIn
 pub mod Leading
 pub mod LeftOut

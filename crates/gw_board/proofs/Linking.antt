@@ -12,18 +12,16 @@ use Rattle.gw_base.specs.declared.key.Key.TheVariants.{Term, Ctx, Whole}
 use Rattle.gw_base.proofs.NamesInLists.{either}
 use Rattle.gw_base.proofs.NameTests.{same_name, same_number}
 use Rattle.gw_table.specs.Maps.{Maps}
-use Rattle.gw_board.specs.Boards.{requested_in}
+use Rattle.gw_board.specs.Boards.{requested_in, is_pending_at}
 use Rattle.gw_board.specs.Carried.{BurstRequest}
 use Rattle.gw_board.specs.Core.{Place}
 use Rattle.gw_board.specs.Links.{last_named, NamesBefore, AreLastNamed, IsLink, AreLinked}
 use Rattle.gw_board.specs.Named.{does_name, IsNoneOfWave}
-use Rattle.gw_board.specs.BoardEntries.{place_of, standing_of}
 use Rattle.gw_board.specs.Waves.{is_pending}
 use Rattle.gw_board.specs.declared.links.LastNamed.{LastNamed}
-use Rattle.gw_board.specs.declared.board_entry.BoardEntry.{BoardEntry}
 use Rattle.gw_board.proofs.Behind.{behind}
 use Rattle.gw_board.proofs.Naming.{named_meets}
-use Rattle.gw_board.proofs.BoardEntryFacts.{length-places, place_there, seat_place}
+use Rattle.gw_board.proofs.BoardEntryFacts.{place_there}
 
 -- ---- a link to a place that is pending
 
@@ -32,16 +30,14 @@ asked_at [] i p e = absurd cc
 asked_at (q ∷ qs) zero p e = let same : q ≡ p = cc in ap (λ (x : Place). Some x.requested) same
 asked_at (q ∷ qs) (suc i) p e = asked_at qs i p e
 
-pub link_behind : (board_entries : List BoardEntry) (i l : ℕ) (s : BoardEntry) → i < length board_entries → IsLink (requested_in (map place_of board_entries)) i l → s ≡ slice_index_or board_entries l s → is_pending (standing_of s.stage) ≡ true
-    → (m : Maps) → IsNoneOfWave m (map place_of board_entries) i
-link_behind board_entries i l s inside link e pends m =
-    let places : List Place = map place_of board_entries in
-    let count : length places ≡ length board_entries = length-places board_entries in
+pub link_behind : (places : List Place) (i l : ℕ) → i < length places → IsLink (requested_in places) i l → is_pending_at (slice_get places l) ≡ true → (m : Maps) → IsNoneOfWave m places i
+link_behind places i l inside link pends m =
     let first = link.before in
-    let there = place_there places i (omega arith) in
-    let one : slice_get places l ≡ Some (place_of s) = seat_place board_entries l s (omega arith) e in
-    behind m places i l there.0 (place_of s) there.1 one link.before
-    (λ j. pends j && link.meet s.task there.0.requested (asked_at places l (place_of s) one) (asked_at places i there.0 there.1) m j)
+    let there = place_there places i inside in
+    let one = place_there places l (omega arith) in
+    let here : is_pending one.0.standing ≡ true = sym (ap is_pending_at one.1) ∙ pends in
+    behind m places i l there.0 one.0 there.1 one.1 link.before
+    (λ j. here j && link.meet one.0.requested there.0.requested (asked_at places l one.0 one.1) (asked_at places i there.0 there.1) m j)
 
 -- ---- the last place that names a thing
 
@@ -52,7 +48,7 @@ in_some d (Some a) = a
 same_there : (requested : List BurstRequest) (i : ℕ) (a b : BurstRequest) → slice_get requested i ≡ Some a → slice_get requested i ≡ Some b → a ≡ b
 same_there requested i a b e f = ap (in_some a) (sym e ∙ f)
 
-on_some : {X : Type 0} (P Q : X → Type 0) (o : Option X) → ((x : X) → P x → Q x) → IfSome o P → IfSome o Q
+pub on_some : {X : Type 0} (P Q : X → Type 0) (o : Option X) → ((x : X) → P x → Q x) → IfSome o P → IfSome o Q
 on_some P Q None f h = tt
 on_some P Q (Some x) f h = f x h
 
@@ -124,8 +120,3 @@ pushed (y ∷ ys) x P f h (suc i) = pushed ys x (λ j. P (suc j)) (λ j. f (suc 
 
 pub linked_more : (requested : List BurstRequest) (all : List (List ℕ)) (links : List ℕ) → AreLinked requested all → All (IsLink requested (length all)) links → AreLinked requested (all ++ links ∷ [])
 linked_more requested all links f h = pushed all links (λ i. All (IsLink requested i)) f h
-
--- ---- the same burst
-
-pub linked_still : (old new : List BurstRequest) (links : List (List ℕ)) → new ≡ old → AreLinked old links → AreLinked new links
-linked_still old new links e h = subst (λ (l : List BurstRequest). AreLinked l links) (sym e) h

@@ -1,6 +1,7 @@
 pub mod Alone
 pub mod BoardView
 pub mod Boards
+pub mod Candidates
 pub mod Carried
 pub mod Core
 pub mod Endings

@@ -249,6 +249,7 @@ impl Board<'_, '_, '_> {
             Ok(left) => left,
             Err(tables) => {
                 self.tables = tables;
+                self.candidates.forget();
                 put_all_back(&mut self.tables, &mut self.undo_log);
                 all_pending(&mut self.board_entries);
                 return Err(NoMemory);
@@ -256,6 +257,7 @@ impl Board<'_, '_, '_> {
         };
         self.tables = left.tables;
         set_stage(&mut self.board_entries, place, Stage::Closed(left.text));
+        self.candidates.release(&self.board_entries, place);
         let Ok(()) = self.undo_log.push(UndoStep::of_writes(left.undo_log)) else {
             unreachable!()
         };
@@ -283,6 +285,7 @@ impl Board<'_, '_, '_> {
         let tables = mem::replace(&mut self.tables, Tables::new(alloc));
         let earlier = last_alone(alloc, &mut self.undo_log);
         self.sweeps_all = continues(self.sweeps_all, &earlier);
+        self.candidates.forget();
         let mut draft = Draft::of_tables(tables, earlier);
         let Ok(()) = carry_each(
             alloc,

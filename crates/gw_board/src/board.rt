@@ -9,8 +9,8 @@ ghost use Rattle.gw_board.specs.Refused.{HandsBack};
 ghost use Rattle.gw_board.specs.Results.{slots_of};
 
 use crate::board_entry::{BoardEntry, board_entries_of};
+use crate::candidates::Candidates;
 use crate::fault::BoardFault;
-use crate::links::Links;
 use crate::profile::Profile;
 use crate::requested::BurstRequest;
 use crate::undo_step::UndoStep;
@@ -28,8 +28,7 @@ pub struct Board<'b, 'h, 'a> {
     pub(crate) tables: Tables,
     pub(crate) profile: Profile,
     pub(crate) board_entries: Vec<BoardEntry<'b, 'h, 'a>>,
-    /// The links of each place: none until they are gathered for the first wave.
-    pub(crate) links: Vec<Links>,
+    pub(crate) candidates: Candidates,
     /// Keys may be prepared that are neither those of the journal nor of open jobs.
     pub(crate) sweeps_all: bool,
     pub(crate) undo_log: Vec<UndoStep>,
@@ -89,7 +88,7 @@ impl<'b, 'h, 'a> Board<'b, 'h, 'a> {
             tables,
             profile,
             board_entries,
-            links: Vec::new(alloc),
+            candidates: Candidates::new(alloc),
             sweeps_all: false,
             undo_log,
             replies,

@@ -2,7 +2,7 @@
 
 ghost use Rattle.std.specs.Prelude.{◌≡◌, ◌<◌, IfOk, length, map, Some, slice_get, slice_set, vec_len};
 ghost use Rattle.gw_board.specs.Core.{Place as PlaceOf, pending};
-ghost use Rattle.gw_board.specs.Boards.{requested_in};
+ghost use Rattle.gw_board.specs.Boards.{requested_in, is_pending_at};
 ghost use Rattle.gw_board.specs.BoardEntries.{standing_of, place_of};
 ghost use Rattle.gw_board.specs.Waves.{is_pending};
 
@@ -55,6 +55,16 @@ pub(crate) fn is_pending(board_entry: &BoardEntry<'_, '_, '_>) -> bool
     ensures { result ≡ is_pending (standing_of board_entry.now.stage) }
 {
     matches!(board_entry.stage, Stage::Pending)
+}
+
+/// Whether there is a pending place of this number.
+pub(crate) fn is_pending_at(board_entries: &[BoardEntry<'_, '_, '_>], place: usize) -> bool
+    ensures { result ≡ is_pending_at (slice_get (map place_of board_entries.now) place) }
+{
+    match board_entries.get(place) {
+        Some(board_entry) => is_pending(board_entry),
+        None => false,
+    }
 }
 
 /// A place stands otherwise from now on.

@@ -71,6 +71,7 @@ impl<'b, 'h, 'a> Board<'b, 'h, 'a> {
         } = job;
         self.tables.put_back(back);
         self.sweeps_all = true;
+        self.candidates.forget();
         set_stage(&mut self.board_entries, place, Stage::Pending);
     }
 
@@ -102,7 +103,7 @@ impl<'b, 'h, 'a> Board<'b, 'h, 'a> {
             mut tables,
             profile: _,
             board_entries: _,
-            links: _,
+            candidates: _,
             sweeps_all: _,
             mut undo_log,
             replies: _,
@@ -128,7 +129,7 @@ impl<'b, 'h, 'a> Board<'b, 'h, 'a> {
             mut tables,
             profile: _,
             board_entries,
-            links: _,
+            candidates: _,
             sweeps_all,
             undo_log,
             mut replies,

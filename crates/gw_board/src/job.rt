@@ -45,15 +45,6 @@ impl<'b, 'h, 'a> Model for Job<'b, 'h, 'a> {
     ghost invariant = { λ a. (a.part.keys ≡ Only (list_of a.part.keys)) × IsJob (record { profile = a.profile; place = a.place; requested = a.task; keys = list_of a.part.keys; part = a.part.maps }) };
 }
 
-impl Job<'_, '_, '_> {
-    /// The place that was opened.
-    pub fn place(&self) -> usize
-        ensures { result ≡ self.now.place }
-    {
-        self.place
-    }
-}
-
 /// Executes a request on a draft that covers it, and writes the reply. What is behind the limit of a reply is
 /// executed, and not written. Texts are gathered in the block, which is left for the next request, whatever it has.
 ///

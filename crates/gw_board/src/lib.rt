@@ -4,6 +4,7 @@
 mod alone;
 mod board;
 mod board_entry;
+mod candidates;
 mod close;
 mod fault;
 mod job;

@@ -4,13 +4,12 @@
 ghost use Rattle.std.specs.Prelude.{◌≡◌, ◌+◌, ◌++◌, ◌<◌, ◌⊎◌, true, None, Some, length, map, All, IsTrue, IfOk, IfSome, OnOk};
 ghost use Rattle.std.specs.Option.{option_to_list};
 ghost use Rattle.gw_base.specs.declared.key.Key.{Key as AKey};
-ghost use Rattle.gw_table.specs.Maps.{Maps};
 ghost use Rattle.gw_board.specs.Boards.{requested_in};
 ghost use Rattle.gw_board.specs.Links.{last_named, AreLastNamed, AreLinked, IsLink};
-ghost use Rattle.gw_board.specs.Named.{IsNoneOfWave};
+ghost use Rattle.gw_board.specs.Candidates.{any_pending};
 ghost use Rattle.gw_board.specs.BoardEntries.{place_of};
 
-use crate::board_entry::{BoardEntry, is_pending};
+use crate::board_entry::{BoardEntry, is_pending_at};
 use crate::named::names_of;
 use gw_base::{Key, NoMemory, TermName};
 use indexmap::IndexMap;
@@ -77,16 +76,20 @@ impl Model for Links {
 }
 
 impl Links {
-    /// Whether a place waits for one of those that it is linked to. Of the places that name a thing it is enough to
-    /// look at the last before this one, since that waits for those before it.
-    pub(crate) fn wait(&self, board_entries: &[BoardEntry<'_, '_, '_>], at: usize) -> bool
-        requires inside { at < length board_entries.now }
-        requires links { All (IsLink (requested_in (map place_of board_entries.now)) at) self.now }
-        ensures { IsTrue result → (m : Maps) → IsNoneOfWave m (map place_of board_entries.now) at }
+    /// The places.
+    pub(crate) fn places(&self) -> &[usize]
+        ensures { result.now ≡ self.now }
+    {
+        &self.places
+    }
+
+    /// Whether one of the places is pending. Of the places that name a thing it is enough to look at the last before
+    /// this one, since that waits for those before it.
+    pub(crate) fn wait(&self, board_entries: &[BoardEntry<'_, '_, '_>]) -> bool
+        ensures { result ≡ true → any_pending (map place_of board_entries.now) self.now ≡ true }
     {
         for next in self.watched.get()..self.places.len() {
-            let earlier = self.places[next];
-            if is_pending(&board_entries[earlier]) {
+            if is_pending_at(board_entries, self.places[next]) {
                 self.watched.set(next);
                 return true;
             }

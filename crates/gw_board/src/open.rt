@@ -167,6 +167,7 @@ impl<'b, 'h, 'a> Board<'b, 'h, 'a> {
                 part: visible,
             },
         );
+        self.candidates.release(&self.board_entries, place);
         Ok(Job {
             place,
             profile,

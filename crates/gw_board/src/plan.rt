@@ -2,23 +2,19 @@
 
 ghost use Rattle.std.specs.Prelude.{◌≡◌, ◌≤◌, ◌<◌, ◌++◌, ◌||◌, ◌&&◌, ℕ, not, length, map, take, is_some, IsTrue, List, IfOk, IfSome, OnOk};
 ghost use Rattle.gw_base.specs.declared.key.Key.{Key as AKey};
-ghost use Rattle.gw_table.specs.Maps.{Maps};
 ghost use Rattle.gw_table.specs.Stored.{maps_of};
 ghost use Rattle.gw_foot.specs.Meets.{meets};
-ghost use Rattle.gw_board.specs.Boards.{requested_in, core_of, AllClosed};
+ghost use Rattle.gw_board.specs.Boards.{core_of, AllClosed};
 ghost use Rattle.gw_board.specs.Carried.{keys_of};
 ghost use Rattle.gw_board.specs.Core.{AreKeysOf};
-ghost use Rattle.gw_board.specs.Links.{AreLinked};
-ghost use Rattle.gw_board.specs.Named.{IsNoneOfWave};
 ghost use Rattle.gw_board.specs.Planned.{IsPlan, MayOpenInTurn, planned_with};
 ghost use Rattle.gw_board.specs.Results.{NothingIsOpen};
-ghost use Rattle.gw_board.specs.BoardEntries.{standing_of, place_of};
+ghost use Rattle.gw_board.specs.BoardEntries.{standing_of};
 ghost use Rattle.gw_board.specs.Waiting.{meet_waiting};
 ghost use Rattle.gw_board.specs.Waves.{is_pending, wave};
 
 use crate::board::Board;
-use crate::board_entry::{BoardEntry, Stage, is_pending};
-use crate::links::Links;
+use crate::board_entry::{BoardEntry, Stage};
 use crate::open::keys_of;
 use crate::planned::Planned;
 use crate::requested::is_seen_for_all;
@@ -62,38 +58,6 @@ fn note_place(planned: &mut Vec<Planned>, place: usize, found: Option<Keys>) -> 
     Ok(())
 }
 
-/// Whether a place is not in the wave, as far as links show: it is not pending, or it waits for an earlier pending
-/// place that names what it names.
-fn waits(board_entries: &[BoardEntry<'_, '_, '_>], links: &[Links], at: usize) -> bool
-    requires inside { at < length board_entries.now }
-    requires links { AreLinked (requested_in (map place_of board_entries.now)) links.now }
-    ensures { IsTrue result → (m : Maps) → IsNoneOfWave m (map place_of board_entries.now) at }
-{
-    if !is_pending(&board_entries[at]) {
-        return true;
-    }
-    match links.get(at) {
-        Some(links) => links.wait(board_entries, at),
-        None => false,
-    }
-}
-
-/// The place behind the last that may be in the wave. The caller knows that the places before `from` are closed.
-fn end_of_wave(board_entries: &[BoardEntry<'_, '_, '_>], links: &[Links], from: usize) -> usize
-    requires links { AreLinked (requested_in (map place_of board_entries.now)) links.now }
-    requires closed { AllClosed (take from (map place_of board_entries.now)) }
-    ensures end { result ≤ length board_entries.now }
-    ensures behind { (i : ℕ) → result ≤ i → i < length board_entries.now → (m : Maps) → IsNoneOfWave m (map place_of board_entries.now) i }
-{
-    let mut end = 0;
-    for at in from..board_entries.len() {
-        if !waits(board_entries, links, at) {
-            end = at + 1;
-        }
-    }
-    end
-}
-
 fn places_of(alloc: Global, planned: &[Planned]) -> Result<Vec<usize>, NoMemory>
     ensures { IfOk result (λ places. places.items ≡ map (λ p. p.place) planned.now) }
 {
@@ -122,8 +86,8 @@ impl Board<'_, '_, '_> {
     /// The next wave, as of `plan`, each place with its keys. While nothing is open, `open_planned` opens them in
     /// this order, one after another. Nothing behind a whole-table place is looked at, nor are the keys of such a
     /// place gathered, where one before it is pending. Once `plan_next` has gathered the names of requests, a place
-    /// that waits for an earlier one which names a context or a termination that it names is not looked at in the
-    /// tables either, but where a later one may be in the wave. With n keys of the places that are looked at the work
+    /// that waits for an earlier one which names a context or a termination that it names is not looked at either, but
+    /// where a later one may be in the wave. With n keys of the places that are looked at the work
     /// is n log n.
     ///
     /// # Errors
@@ -146,7 +110,7 @@ impl Board<'_, '_, '_> {
     {
         let mut planned = Vec::new(alloc);
         let mut waiting = Waiting::new(alloc);
-        for at in from..end_of_wave(&self.board_entries, &self.links, from) {
+        for at in from..self.candidates.end(&self.board_entries) {
             if waiting.is_whole() {
                 return Ok(planned);
             }

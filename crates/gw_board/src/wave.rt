@@ -1,16 +1,16 @@
 //! The waves of a burst: the jobs of one are opened together, and closed together.
 
-ghost use Rattle.std.specs.Prelude.{◌≡◌, ◌+◌, false, length, map, is_ok, IfOk, IsOk, IsSomeAnd, Some, Ok, OnErr, OnOk, slice_get};
+ghost use Rattle.std.specs.Prelude.{◌≡◌, ◌+◌, [], ◌∷◌, false, IsTrue, length, map, is_ok, IfOk, IsOk, IsSomeAnd, Some, Ok, OnErr, OnOk, slice_get};
 ghost use Rattle.std.specs.List.{list_all};
 ghost use Rattle.gw_board.specs.Alone.{IsFirstUnclosed};
 ghost use Rattle.gw_board.specs.Boards.{core_of, unchanged, unclosed, with_result};
 ghost use Rattle.gw_board.specs.OpenJobs.{after_each, AreOpen, AreAnswers, IsSameBurst};
 ghost use Rattle.gw_board.specs.Planned.{IsPlan, MayOpenInTurn};
 ghost use Rattle.gw_board.specs.Results.{NothingIsOpen};
+ghost use Rattle.gw_board.specs.Waves.{wave};
 
 use crate::board::Board;
 use crate::job::{Done, Job};
-use crate::links::links_of;
 use crate::planned::Planned;
 use gw_base::{Items, NoMemory};
 use gw_table::Part;
@@ -37,14 +37,30 @@ fn result_in(answer: Option<Answer>) -> (Part, Items<u8>)
 }
 
 impl<'b, 'h, 'a> Board<'b, 'h, 'a> {
-    /// Gathers the links of all places, if that was not done yet.
+    /// Gathers the links of all places, if that was not done yet, and drops what is no candidate any more.
     fn link(&mut self, alloc: Global) -> Result<(), NoMemory>
         ensures { self.new ≡ self.old }
     {
-        if self.links.is_empty() {
-            self.links = links_of(alloc, &self.board_entries)?;
-        }
+        self.candidates.link(alloc, &self.board_entries)?;
+        self.candidates.trim(&self.board_entries);
         Ok(())
+    }
+
+    /// Whether the next wave is its first place alone, as far as the names in the requests show: no other place is
+    /// without a link to a pending one. The tables are not looked at. The caller knows that nothing is open, and which
+    /// place is the first that is not closed. What the requests name by themselves is gathered before the first wave.
+    ///
+    /// # Errors
+    ///
+    /// Out of memory.
+    pub fn is_wave_alone(&mut self, alloc: Global, first: usize) -> Result<bool, NoMemory>
+        requires none { NothingIsOpen (core_of self.old) }
+        requires first { IsFirstUnclosed self.old.places first }
+        ensures alone { IfOk result (λ alone. IsTrue alone → wave (core_of self.old) ≡ first ∷ []) }
+        ensures stays { self.new ≡ self.old }
+    {
+        self.link(alloc)?;
+        Ok(self.candidates.end(&self.board_entries) <= first + 1)
     }
 
     /// The next wave, as of `plan_wave`, where places that wait for earlier ones by name are not looked at in the

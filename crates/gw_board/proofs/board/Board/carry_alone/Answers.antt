@@ -8,6 +8,11 @@ use Rattle.gw_table.specs.UndoLog.{keys_written, undone as taken}
 use Rattle.gw_table.specs.Stored.{Stored, maps_of, AreReady, NoneIsOut}
 use Rattle.gw_table.specs.WellFormed.{AreWellFormed}
 use Rattle.gw_board.specs.Alone.{WasCarried, AreAsBegun}
+use Rattle.std.specs.BinaryHeap.{heap_items}
+use Rattle.gw_board.specs.Candidates.{AreCandidates, AreFreeBut}
+use Rattle.gw_board.specs.Links.{AreLinked}
+use Rattle.gw_board.specs.declared.board_entry.BoardEntry.{BoardEntry}
+use Rattle.gw_board.proofs.Joining.{free_but}
 use Rattle.gw_board.specs.BoardView.{value_of, IsOnTheWay, IsKeptIn, NoneIsSpare}
 use Rattle.gw_board.specs.Boards.{Seen, requested_in, begun_board, core_of, AllClosed, unclosed}
 use Rattle.gw_board.specs.Carried.{BurstRequest, done}
@@ -18,7 +23,6 @@ use Rattle.gw_board.specs.Results.{is_open, NothingIsOpen}
 use Rattle.gw_board.specs.BoardEntries.{place_of, undo_step_of_writes}
 use Rattle.gw_board.proofs.CarriedAlone.{with_alone, took_back, took_ready, led_back, well_here, unused_here, alone_fewer, alone_none, alone_closed, alone_same, alone_kept, alone_way}
 use Rattle.gw_board.proofs.KeptIn.{all_ready, begun_kept, none_out}
-use Rattle.gw_board.proofs.Linking.{linked_still}
 use Rattle.gw_board.proofs.OnTheWay.{requested-pending, begun_way, gives_the_fold}
 use Rattle.gw_board.proofs.BoardEntryFacts.{seat_inside, unclosed-pending, length-places, length-requested}
 use Rattle.gw_board.proofs.Spare.{swept_spare, alone_spare}
@@ -116,7 +120,7 @@ invariant_of-self c =
       on_the_way = subst IsOnTheWay (sym (is_begun c)) (begun_again c);
       kept = subst (IsKeptIn (back c)) (sym (is_begun c)) (begun_kept (before c).profile (requested_in (before c).places) (before c).start (back c) c.put_all_back.ensures.here);
       room = record { undo_log = omega arith; all = omega arith; replies = omega arith; no_replies = c.self.invariant.room.no_replies };
-      linked = linked_still (requested_in (map place_of c.self.inside.board_entries.items)) (requested_in (map place_of c.all_pending.new.board_entries.items)) c.self.inside.links.items c.all_pending.ensures.requested c.self.invariant.linked;
+      candidates = c.forget.ensures (map place_of c.all_pending.new.board_entries.items);
       spare = λ e. swept_spare c.self.inside.start.value (back c) c.put_all_back.new.undo_log.items (map place_of c.all_pending.new.board_entries.items) c.put_all_back.ensures.swept;
     }
 
@@ -155,6 +159,24 @@ unreachable-requires-in_default-push c =
     let space = c.last_alone-earlier.ensures.capacity in
     let full = c.in_default-push.ensures.full in
     omega arith
+
+pub release-requires-clause-linked : goal.release-requires-clause-linked
+release-requires-clause-linked c =
+    subst (λ (l : List BurstRequest). AreLinked l c.self.inside.candidates.links.items)
+    (sym (ap (λ (l : List BoardEntry). requested_in (map place_of l)) c.deref.ensures.value ∙ c.set_stage.ensures.requested)) c.self.invariant.candidates.linked
+
+pub release-requires-clause-listed : goal.release-requires-clause-listed
+release-requires-clause-listed c = c.self.invariant.candidates.listed
+
+pub release-requires-clause-ordered : goal.release-requires-clause-ordered
+release-requires-clause-ordered c = c.self.invariant.candidates.ordered
+
+pub release-requires-clause-free : goal.release-requires-clause-free
+release-requires-clause-free c =
+    let pends : slice_get (value_of c.self.inside).places c.args.place ≡ Some (pending c.in-Some.task) = pends_here (value_of c.self.inside) c.args.self.now c.args.place c.in-Some.task c.self.view_is c.in-Some.ensures in
+    subst (λ (l : List Place). AreFreeBut c.args.place l c.self.inside.candidates.links.items (heap_items c.self.inside.candidates.free))
+    (sym (ap (λ (l : List BoardEntry). map place_of l) c.deref.ensures.value ∙ c.set_stage.ensures.places (pending c.in-Some.task) pends))
+    (free_but (value_of c.self.inside).places c.args.place _ c.self.inside.candidates.links.items (heap_items c.self.inside.candidates.free) refl c.self.invariant.candidates.free)
 
 module _ (c : In-Ok-push) where
   abbrev b : Seen
@@ -251,7 +273,7 @@ invariant_of-self-2 c =
       on_the_way = new_way c;
       kept = new_kept c;
       room = record { undo_log = omega arith; all = omega arith; replies = omega arith; no_replies = c.self.invariant.room.no_replies };
-      linked = linked_still (requested_in (map place_of c.self.inside.board_entries.items)) (requested_in (map place_of c.set_stage.new.board_entries.items)) c.self.inside.links.items c.set_stage.ensures.requested c.self.invariant.linked;
+      candidates = subst (λ (l : List BoardEntry). AreCandidates (map place_of l) c.release.new.self) c.deref.ensures.value c.release.ensures;
       spare = λ e. new_spare c (c.continues-self-inside.ensures.none e, c.continues-self-inside.ensures.before e);
     }
 

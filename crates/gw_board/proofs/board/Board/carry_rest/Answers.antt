@@ -22,7 +22,6 @@ use Rattle.gw_board.proofs.CarriedAlone.{took_back, took_ready}
 use Rattle.gw_board.proofs.Comes.{out_of_none}
 use Rattle.gw_board.proofs.GoingOn.{led_behind, led_from, none_left, none_pending, some_unclosed, with_journal}
 use Rattle.gw_board.proofs.KeptIn.{all_ready, begun_kept, none_out}
-use Rattle.gw_board.proofs.Linking.{linked_still}
 use Rattle.gw_board.proofs.OnTheWay.{requested-pending, begun_way, gives_the_fold}
 use Rattle.gw_board.proofs.Orders.{each_joined}
 use Rattle.gw_board.proofs.BoardEntryFacts.{unclosed-pending, length-places, length-requested}
@@ -133,7 +132,7 @@ invariant_of-self g c =
       on_the_way = subst IsOnTheWay (sym (is_begun g c)) (begun_again g c);
       kept = subst (IsKeptIn (back g c)) (sym (is_begun g c)) (begun_kept (before g c).profile (requested_in (before g c).places) (before g c).start (back g c) c.put_all_back.ensures.here);
       room = record { undo_log = omega arith; all = omega arith; replies = omega arith; no_replies = c.self.invariant.room.no_replies };
-      linked = linked_still (requested_in (map place_of c.self.inside.board_entries.items)) (requested_in (map place_of c.all_pending.new.board_entries.items)) c.self.inside.links.items (c.all_pending.ensures.requested ∙ c.carry_each.ensures.requested) c.self.invariant.linked;
+      candidates = c.forget.ensures (map place_of c.all_pending.new.board_entries.items);
       spare = λ e. swept_spare c.self.inside.start.value (back g c) c.put_all_back.new.undo_log.items (map place_of c.all_pending.new.board_entries.items) c.put_all_back.ensures.swept;
     }
 
@@ -272,7 +271,7 @@ invariant_of-self-2 g c =
       on_the_way = new_way g c;
       kept = new_kept g c;
       room = record { undo_log = omega arith; all = omega arith; replies = omega arith; no_replies = c.self.invariant.room.no_replies };
-      linked = linked_still (requested_in (map place_of c.self.inside.board_entries.items)) (requested_in (map place_of c.carry_each.new.board_entries.items)) c.self.inside.links.items c.carry_each.ensures.requested c.self.invariant.linked;
+      candidates = c.forget.ensures (map place_of c.carry_each.new.board_entries.items);
       spare = λ e. new_spare g c (c.continues-self-inside.ensures.none e, c.continues-self-inside.ensures.before e);
     }
 

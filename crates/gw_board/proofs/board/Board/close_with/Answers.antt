@@ -1,7 +1,13 @@
-use Rattle.std.proofs.Common.{◌≡◌, ℕ, suc, List, ◌∷◌, ◌++◌, [], map, Some, sym, ap, subst, ◌∙◌, arith}
+use Rattle.std.proofs.Common.{◌≡◌, ℕ, suc, List, ◌∷◌, ◌++◌, [], map, Some, refl, sym, ap, subst, ◌∙◌, arith}
 use Rattle.std.specs.Prelude.{slice_get, slice_set}
 use Rattle.gw_table.specs.Parts.{Parted, list_of, overlaid}
 use Rattle.gw_table.specs.Stored.{maps_of, AreOut, CameBack}
+use Rattle.std.specs.BinaryHeap.{heap_items}
+use Rattle.gw_board.specs.Candidates.{AreFree}
+use Rattle.gw_board.specs.Carried.{BurstRequest}
+use Rattle.gw_board.specs.Core.{Place}
+use Rattle.gw_board.specs.Links.{AreLinked}
+use Rattle.gw_board.proofs.Joining.{free_yet}
 use Rattle.gw_board.specs.BoardView.{value_of, IsOnTheWay, IsKeptIn, NoneIsSpare}
 use Rattle.gw_board.specs.Boards.{Seen, Handed, requested_in, HasOpen, job_of, undo_step_in, outcome_of, with_result, unclosed}
 use Rattle.gw_board.specs.Core.{Place, Closed, open_with}
@@ -9,7 +15,6 @@ use Rattle.gw_board.specs.Journal.{UndoStep}
 use Rattle.gw_board.specs.BoardEntries.{place_of}
 use Rattle.gw_board.proofs.Ends.{fewer_unclosed}
 use Rattle.gw_board.proofs.KeptIn.{open_out, result_kept_in}
-use Rattle.gw_board.proofs.Linking.{linked_still}
 use Rattle.gw_board.proofs.OnTheWay.{gives_the_fold, result_way}
 use Rattle.gw_board.proofs.BoardEntryFacts.{seat_inside}
 use Rattle.gw_board.proofs.Spare.{result_spare}
@@ -89,7 +94,13 @@ invariant_of-self c =
       kept = subst (IsKeptIn c.put_back.new.self) (sym (is_new c))
           (result_kept_in (b c) c.self.invariant.on_the_way (h c) (o c) c.self.inside.tables c.self.invariant.kept c.put_back.new.self back (λ k i. c.put_back.ensures.ready k ∙ i));
       room = record { undo_log = omega arith; all = omega arith; replies = omega arith; no_replies = c.self.invariant.room.no_replies };
-      linked = linked_still (requested_in (map place_of c.self.inside.board_entries.items)) (requested_in (map place_of c.set_stage.new.board_entries.items)) c.self.inside.links.items c.set_stage.ensures.requested c.self.invariant.linked;
+      candidates = record {
+        linked = subst (λ (l : List BurstRequest). AreLinked l c.self.inside.candidates.links.items) (sym c.set_stage.ensures.requested) c.self.invariant.candidates.linked;
+        listed = c.self.invariant.candidates.listed;
+        ordered = c.self.invariant.candidates.ordered;
+        free = subst (λ (l : List Place). AreFree l c.self.inside.candidates.links.items (heap_items c.self.inside.candidates.free)) (sym (places_are c))
+            (free_yet (b c).places (h c).place (open_with (h c).requested (job_of (h c))) _ c.self.inside.candidates.links.items (heap_items c.self.inside.candidates.free) (o c).stands refl refl c.self.invariant.candidates.free);
+      };
       spare = λ e.
           subst (λ (l : List Place). NoneIsSpare (b c).start c.put_back.new.self c.push.new.self.items l) (sym (places_are c))
           (subst (λ (l : List UndoStep). NoneIsSpare (b c).start c.put_back.new.self l (with_result (b c) (h c)).places) (sym (originals_are c))

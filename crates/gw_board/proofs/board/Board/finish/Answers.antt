@@ -16,7 +16,7 @@ use Rattle.gw_board.proofs.OnTheWay.{gives_the_fold}
 use Rattle.gw_board.proofs.BoardEntryFacts.{closed_front, closed_reply, told_as, told_more, told_all, nil_of}
 use Rattle.gw_board.proofs.Spare.{finished}
 use Rattle.gw_board.proofs.board.Board.finish.Goals as goal
-use Rattle.gw_board.proofs.board.Board.finish.Goals.{After-drop-self-inside-2}
+use Rattle.gw_board.proofs.board.Board.finish.Goals.{After-drop-self-inside-4}
 
 pub loop-board_entry-init : goal.loop-board_entry-init
 loop-board_entry-init c =
@@ -77,7 +77,7 @@ sweep_journal-requires c =
     let closed = closed_now c.self.inside.board_entries.items c.into_iter-board_entry-iterator.result.rest.items rest replies c.into_iter-board_entry-iterator.ensures.into_iter_gives.0 c.loop-board_entry.invariant.limited_text none in
     none_out b c.self.inside.tables c.self.invariant.kept (closed_ones b.places replies closed)
 
-module _ (c : After-drop-self-inside-2) where
+module _ (c : After-drop-self-inside-4) where
   abbrev b : Seen
   b = value_of c.self.inside
 

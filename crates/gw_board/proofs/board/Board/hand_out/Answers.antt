@@ -1,10 +1,15 @@
-use Rattle.std.proofs.Common.{◌≡◌, ℕ, List, map, None, refl, sym, ap, subst, ◌∙◌, arith}
+use Rattle.std.proofs.Common.{◌≡◌, ℕ, List, map, None, Some, refl, sym, ap, subst, ◌∙◌, arith}
 use Rattle.std.specs.Prelude.{◌||◌, ◌&&◌, slice_get, slice_set}
 use Rattle.gw_base.specs.Keys.{has}
 use Rattle.gw_base.specs.declared.key.Key.{Key}
 use Rattle.gw_table.specs.Maps.{Maps}
 use Rattle.gw_table.specs.Parts.{Only, list_of, restricted, cut}
 use Rattle.gw_table.specs.Stored.{maps_of, is_out, names_entry, AreIn, NoOtherReady}
+use Rattle.std.specs.BinaryHeap.{heap_items}
+use Rattle.gw_board.specs.Candidates.{AreCandidates, AreFreeBut}
+use Rattle.gw_board.specs.Links.{AreLinked}
+use Rattle.gw_board.specs.declared.board_entry.BoardEntry.{BoardEntry}
+use Rattle.gw_board.proofs.Joining.{free_but}
 use Rattle.gw_board.specs.BoardView.{value_of, IsOnTheWay, IsKeptIn, NoneIsSpare}
 use Rattle.gw_board.specs.Boards.{Seen, Handed, requested_in, core_of, Opens, with_open, unclosed}
 use Rattle.gw_board.specs.Carried.{BurstRequest}
@@ -12,12 +17,11 @@ use Rattle.gw_board.specs.Core.{Opened, Place, pending, open_with, MayOpen}
 use Rattle.gw_board.specs.Jobs.{IsJob}
 use Rattle.gw_board.specs.BoardEntries.{place_of}
 use Rattle.gw_board.proofs.KeptIn.{open_in, open_kept}
-use Rattle.gw_board.proofs.Linking.{linked_still}
 use Rattle.gw_board.proofs.OnTheWay.{gives_the_fold, open_way, open_job}
 use Rattle.gw_board.proofs.BoardEntryFacts.{seat_inside, unclosed-stays}
 use Rattle.gw_board.proofs.Spare.{open_spare}
 use Rattle.gw_board.proofs.board.Board.hand_out.Goals as goal
-use Rattle.gw_board.proofs.board.Board.hand_out.Goals.{After-set_stage}
+use Rattle.gw_board.proofs.board.Board.hand_out.Goals.{After-release}
 
 pub take_out-part-requires-clause-here : goal.take_out-part-requires-clause-here
 take_out-part-requires-clause-here c =
@@ -29,7 +33,25 @@ take_out-part-requires-clause-here c =
 pub set_stage-requires : goal.set_stage-requires
 set_stage-requires c = seat_inside c.self.inside.board_entries.items c.args.place (pending c.args.task) (ap (λ (x : Seen). slice_get x.places c.args.place) c.self.view_is ∙ c.requires.pends)
 
-module _ (c : After-set_stage) where
+pub release-requires-clause-linked : goal.release-requires-clause-linked
+release-requires-clause-linked c =
+    subst (λ (l : List BurstRequest). AreLinked l c.self.inside.candidates.links.items)
+    (sym (ap (λ (l : List BoardEntry). requested_in (map place_of l)) c.deref.ensures.value ∙ c.set_stage.ensures.requested)) c.self.invariant.candidates.linked
+
+pub release-requires-clause-listed : goal.release-requires-clause-listed
+release-requires-clause-listed c = c.self.invariant.candidates.listed
+
+pub release-requires-clause-ordered : goal.release-requires-clause-ordered
+release-requires-clause-ordered c = c.self.invariant.candidates.ordered
+
+pub release-requires-clause-free : goal.release-requires-clause-free
+release-requires-clause-free c =
+    let pends : slice_get (value_of c.self.inside).places c.args.place ≡ Some (pending c.args.task) = ap (λ (x : Seen). slice_get x.places c.args.place) c.self.view_is ∙ c.requires.pends in
+    subst (λ (l : List Place). AreFreeBut c.args.place l c.self.inside.candidates.links.items (heap_items c.self.inside.candidates.free))
+    (sym (ap (λ (l : List BoardEntry). map place_of l) c.deref.ensures.value ∙ c.set_stage.ensures.places (pending c.args.task) pends))
+    (free_but (value_of c.self.inside).places c.args.place _ c.self.inside.candidates.links.items (heap_items c.self.inside.candidates.free) refl c.self.invariant.candidates.free)
+
+module _ (c : After-release) where
   abbrev b : Seen
   b = value_of c.self.inside
 
@@ -102,7 +124,7 @@ invariant_of-self-2 c =
           (λ k. c.take_out-part.ensures.out k ∙ ap (λ (l : List Key). is_out c.prepare.new.self k || (has l k && names_entry k)) c.in-Ok.ensures.keys ∙ ap (λ o. o || (has c.args.keys k && names_entry k)) (c.in-Ok.ensures.out k))
           (λ k h. c.take_out-part.ensures.ready k ∙ c.in-Ok.ensures.kept k h));
       room = record { undo_log = omega arith; all = omega arith; replies = omega arith; no_replies = c.self.invariant.room.no_replies };
-      linked = linked_still (requested_in (map place_of c.self.inside.board_entries.items)) (requested_in (map place_of c.set_stage.new.board_entries.items)) c.self.inside.links.items c.set_stage.ensures.requested c.self.invariant.linked;
+      candidates = subst (λ (l : List BoardEntry). AreCandidates (map place_of l) c.release.new.self) c.deref.ensures.value c.release.ensures;
       spare = λ e.
           subst (λ (l : List Place). NoneIsSpare (b c).start c.take_out-part.new.self (b c).undo_log l) (sym (places_are c))
           (open_spare (b c) c.args.place c.args.task c.args.keys c.self.inside.tables c.take_out-part.new.self (may c).pends (others_ready c) (maps_are c) (c.self.invariant.spare e));

@@ -35,7 +35,7 @@ invariant_of-result c =
       on_the_way = subst IsOnTheWay (sym (is_begun c)) (way c);
       kept = subst (IsKeptIn c.args.tables) (sym (is_begun c)) (begun_kept c.args.profile c.args.requested.now c.args.tables c.args.tables c.requires.here);
       room = record { undo_log = omega arith; all = omega arith; replies = omega arith; no_replies = c.in-Ok-with_capacity-2.ensures.items };
-      linked = subst (AreLinked (requested_in (map place_of c.in-Ok.board_entries.items))) (sym c.new.ensures.items) (λ i. tt);
+      candidates = c.new.ensures (map place_of c.in-Ok.board_entries.items);
       spare = λ e. begun_spare c.of-start.result.value c.args.tables c.in-Ok-with_capacity.undo_log.items (map place_of c.in-Ok.board_entries.items) c.of-start.ensures;
     }
 

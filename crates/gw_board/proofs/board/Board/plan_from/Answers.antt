@@ -1,12 +1,12 @@
 use Rattle.std.proofs.Common.{◌≡◌, ◌+◌, ◌-◌, ◌<◌, ◌≤◌, ℕ, suc, cond, false, not, List, [], ◌∷◌, ◌++◌, filter, map, length, take, Some, is_some, sym, ap, subst, ◌∙◌, add-one, arith}
 use Rattle.std.specs.List.{range_with_len}
-use Rattle.std.specs.Prelude.{slice_get, All, IfSome}
+use Rattle.std.specs.Prelude.{slice_get}
 use Rattle.gw_board.specs.BoardView.{value_of}
-use Rattle.gw_board.specs.Boards.{Seen, requested_in, core_of, AllClosed}
+use Rattle.gw_board.specs.Boards.{Seen, core_of}
 use Rattle.gw_board.specs.Carried.{keys_of}
 use Rattle.gw_board.specs.Core.{Core, Place}
 use Rattle.gw_board.specs.Fitting.{Each}
-use Rattle.gw_board.specs.Links.{IsLink}
+use Rattle.gw_board.specs.Candidates.{AreCandidates}
 use Rattle.gw_board.specs.Named.{IsNoneOfWave}
 use Rattle.gw_board.specs.Planned.{IsPlan, IsReckoned, planned_with}
 use Rattle.gw_board.specs.BoardEntries.{place_of}
@@ -15,20 +15,13 @@ use Rattle.gw_board.specs.declared.planned.Planned.{Planned}
 use Rattle.gw_board.specs.declared.board_entry.BoardEntry.{BoardEntry}
 use Rattle.gw_board.proofs.Behind.{filter_end}
 use Rattle.gw_board.proofs.FirstOfWave.{closed_unmet, none_so_far}
-use Rattle.gw_board.proofs.Linking.{linked_still}
 use Rattle.gw_board.proofs.InTurn.{planned_in_turn}
 use Rattle.gw_board.proofs.Planning.{free_at, AreThose, wave_more, those_more, free_is, placed, reckoned, each-append, map-append, none_behind}
 use Rattle.gw_board.proofs.BoardEntryFacts.{length-places, seat_place}
 use Rattle.gw_board.proofs.board.Board.plan_from.Goals as goal
 
-pub end_of_wave-at-end-requires-clause-links : goal.end_of_wave-at-end-requires-clause-links
-end_of_wave-at-end-requires-clause-links c = λ i. subst (λ (l : List (List ℕ)). IfSome (slice_get l i) (All (IsLink (requested_in (map place_of c.deref.result.now)) i))) (sym c.deref-2.ensures.value)
-    (linked_still (requested_in (map place_of c.self.inside.board_entries.items)) (requested_in (map place_of c.deref.result.now)) c.self.inside.links.items (ap (λ (l : List BoardEntry). requested_in (map place_of l)) c.deref.ensures.value) c.self.invariant.linked i)
-
-pub end_of_wave-at-end-requires-clause-closed : goal.end_of_wave-at-end-requires-clause-closed
-end_of_wave-at-end-requires-clause-closed c =
-    subst (λ (l : List BoardEntry). AllClosed (take c.args.from (map place_of l))) (sym c.deref.ensures.value)
-    (subst (λ (x : Seen). AllClosed (take c.args.from x.places)) (sym c.self.view_is) c.requires.closed)
+pub end-at-end-requires : goal.end-at-end-requires
+end-at-end-requires c = subst (λ (l : List BoardEntry). AreCandidates (map place_of l) c.self.inside.candidates) (sym c.deref.ensures.value) c.self.invariant.candidates
 
 pub loop-at-init : goal.loop-at-init
 loop-at-init c =
@@ -44,11 +37,11 @@ pub loop-at-preserved : goal.loop-at-preserved
 loop-at-preserved c =
     let b : Seen = value_of c.self.inside in
     let i : ℕ = c.loop-at.at in
-    let e : ℕ = c.end_of_wave-at-end.result in
+    let e : ℕ = c.end-at-end.result in
     let items : List BoardEntry = c.self.inside.board_entries.items in
     let board_entry : BoardEntry = c.index-board_entry.result.now in
     let p : Place = place_of board_entry in
-    let within : e ≤ length items = subst (λ (l : List BoardEntry). e ≤ length l) c.deref.ensures.value c.end_of_wave-at-end.ensures.end in
+    let within : e ≤ length items = subst (λ (l : List BoardEntry). e ≤ length l) c.deref.ensures.value c.end-at-end.ensures.end in
     let below = c.loop-at-test.true in
     let here : slice_get b.places i ≡ Some p = seat_place items i board_entry (omega arith) c.index-board_entry.ensures in
     let count : length c.args.self.now.places ≡ length items = ap (λ (x : Seen). length x.places) (sym c.self.view_is) ∙ length-places items in
@@ -100,7 +93,7 @@ returns c =
     let rest : (k : ℕ) → i ≤ k → k < i + (n - i) → free_at (core_of s) k ≡ false =
     λ k l m. subst (λ (x : Seen). free_at (core_of x) k ≡ false) c.self.view_is
     (subst (λ (ss : List BoardEntry). IsNoneOfWave b.maps (map place_of ss) k) c.deref.ensures.value
-    (c.end_of_wave-at-end.ensures.behind k (omega arith) (let o : length c.deref.result.now ≡ length items = ap length c.deref.ensures.value in omega arith) b.maps)) in
+    (c.end-at-end.ensures.behind k (omega arith) (let o : length c.deref.result.now ≡ length items = ap length c.deref.ensures.value in omega arith) b.maps)) in
     let plan : IsPlan s c.loop-at.planned.items = record {
       places = c.loop-at.invariant.places
           ∙ sym (filter_end (free_at (core_of s)) i (n - i) rest)

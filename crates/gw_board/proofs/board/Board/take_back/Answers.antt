@@ -8,7 +8,6 @@ use Rattle.gw_board.specs.Core.{Pending, open_with}
 use Rattle.gw_board.specs.BoardEntries.{place_of}
 use Rattle.gw_board.proofs.Ends.{as_many_unclosed}
 use Rattle.gw_board.proofs.KeptIn.{open_out, unchanged_kept}
-use Rattle.gw_board.proofs.Linking.{linked_still}
 use Rattle.gw_board.proofs.OnTheWay.{gives_the_fold, unchanged_way}
 use Rattle.gw_board.proofs.BoardEntryFacts.{seat_inside}
 use Rattle.gw_board.proofs.board.Board.take_back.Goals as goal
@@ -70,7 +69,7 @@ invariant_of-self c =
       kept = subst (IsKeptIn c.put_back.new.self) (sym (is_new c))
           (unchanged_kept (b c) c.self.invariant.on_the_way (h c) (o c) c.self.inside.tables c.self.invariant.kept c.put_back.new.self back (λ k i. c.put_back.ensures.ready k ∙ i));
       room = record { undo_log = omega arith; all = omega arith; replies = omega arith; no_replies = c.self.invariant.room.no_replies };
-      linked = linked_still (requested_in (map place_of c.self.inside.board_entries.items)) (requested_in (map place_of c.set_stage.new.board_entries.items)) c.self.inside.links.items c.set_stage.ensures.requested c.self.invariant.linked;
+      candidates = c.forget.ensures (map place_of c.set_stage.new.board_entries.items);
       spare = λ e. absurd cc;
     }
 
