@@ -11,11 +11,12 @@ fill, and a Subtract of both.
 `--bursts` measures new transactions and repeats in bursts of 64 and of 1,024, with 4,096 kept replies.
 `--samples` measures transactions of every kind of a call (two Adds, a Modify and a Subtract, each with what it is sent with) among 1,000
 terminations and 4,096 kept replies, in bursts of 1, 4, 16 and 256, and with 4 kept replies in bursts of 16; it fails where one costs more
-than 15,000 in bursts of 16, more than half as much again in bursts of its own, or more than a twentieth more in one of the others than in
-another, or with 4,096 kept replies than with 4.
+than a tenth above 15,500 in bursts of 16, more than half as much again in bursts of its own, or more than a twentieth more in one of the
+others than in another, or with 4,096 kept replies than with 4.
 `--waves` measures bursts of 1,024 transactions that stand in one another's way, or do not, with one worker and with three, whose
 processors are counted together; it fails where three take more than 4,000 more than one on 1,024 contexts, or 1.3 times as many on one.
-`--records` measures what executing costs beside the burst, and the memory of bare terminations; it fails where one is above its limit.
+`--records` measures what executing costs beside the burst, and the memory of bare terminations; it fails where one is more
+than a tenth above its limit.
 """
 import pathlib
 import re
@@ -164,7 +165,7 @@ def samples(folder):
         print(f"| {size} | {found:,.0f} |")
     print(f"| 16, 4 replies kept | {few:,.0f} |")
     alone = work.pop(1)
-    return work[16] > 15_000 or alone > 1.5 * work[16] or max(work.values()) > 1.05 * min(work.values()) or work[16] > 1.05 * few
+    return work[16] > usage.TENTH * 15_500 or alone > 1.5 * work[16] or max(work.values()) > 1.05 * min(work.values()) or work[16] > 1.05 * few
 
 
 # Bursts of 1,024 transactions: what each asks, by its number from 0, over contexts of two that were made before.
@@ -254,7 +255,7 @@ def records(folder):
     conf = config(folder, 4)
     typical_work = (instructions(conf, bursts(typical(2_048, 4), 16)) - instructions(conf, bursts(typical(1_024, 4), 16))) / 1_024
     lines = [
-        ("a typical transaction, 4 terminations, bursts of 16", typical_work, 15_000),
+        ("a typical transaction, 4 terminations, bursts of 16", typical_work, 15_500),
         ("a short transaction that is executed, 1,024 in a datagram", short(folder), 4_200),
         ("two Adds with Media and a Local to fill, beyond reading", two_adds(folder), 16_500),
         ("AuditValue=* under - with Media, 100 whose replies are written, a termination", of_all(folder, 100, MEDIA, AUDIT_ALL), 3_500),
@@ -266,7 +267,7 @@ def records(folder):
     print("| What | instructions, or bytes | at most |\n|---|---|---|")
     for name, found, limit in lines:
         print(f"| {name} | {found:,.0f} | {limit:,} |")
-    return any(found > limit for _, found, limit in lines)
+    return any(found > usage.TENTH * limit for _, found, limit in lines)
 
 
 CHOICES = ["--rates", "--tables", "--bursts", "--samples", "--waves", "--records"]

@@ -3,6 +3,9 @@ own, on standard error and with status 2."""
 import os
 import sys
 
+# A figure within a tenth of its limit is reached.
+TENTH = 1.1
+
 
 def words(doc, is_word, most=None):
     """The words of the command line. It ends where one of them is none that the bench knows, and where there are too many."""

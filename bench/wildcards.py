@@ -12,8 +12,8 @@ each list.
 
 Of the commands under `-` the one is taken that costs most where it fills a datagram: with 4,000 terminations and with 65,535.
 
-It fails where a match takes more than 2,000 instructions and 1,000 more for each property that is sent, where a burst takes more
-than 64 MB beyond the state, where 65,535 terminations take more than 20 times what 4,000 take, or where an answer is another.
+It fails where a match takes more than a tenth above 2,000 instructions and 1,000 more for each property that is sent, where a burst
+takes more than 64 MB beyond the state, where 65,535 terminations take more than 20 times what 4,000 take, or where an answer is another.
 """
 import functools
 import sys
@@ -192,7 +192,7 @@ def match(folder, kind):
     print(f"| {kind.name} | {kind.matches:,} | {work:,.0f} | {most:,} | {memory / strangers.MEBIBYTE:.1f} |", flush=True)
     if not is_answered(kind, answers):
         print(f"{kind.name}: not answered so: {answers[-1][:200]!r}", file=sys.stderr)
-    over = is_above(kind.name, "instructions for a match", work, most) | is_above(kind.name, "MB", memory / strangers.MEBIBYTE, MEBIBYTES)
+    over = is_above(kind.name, "instructions for a match", work, round(usage.TENTH * most)) | is_above(kind.name, "MB", memory / strangers.MEBIBYTE, MEBIBYTES)
     return work, over or not is_answered(kind, answers)
 
 
