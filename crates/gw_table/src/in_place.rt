@@ -11,7 +11,7 @@ use crate::place::Place;
 use crate::row::Found;
 use crate::rows::Guide;
 use crate::tables::Tables;
-use crate::undo_log::{UndoLog, Write};
+use crate::undo_log::{UndoLog, Write, make_room};
 use gw_base::{CtxNum, NoMemory, Service, TermName};
 use gw_ctx::Context;
 use gw_term::Termination;
@@ -86,16 +86,14 @@ impl InPlace {
         ensures err { OnErr result (self.new.maps ≡ self.old.maps) }
         ensures keys { self.new.keys ≡ self.old.keys }
     {
-        self.writes.reserve(1)?;
+        make_room(&mut self.writes)?;
         let found = self
             .tables
             .write_term(guide, name, Place::of(entry), &self.writes)?;
         let Found::Unlogged(before) = found else {
             return Ok(());
         };
-        let Ok(()) = self.writes.push(Write::OfTerm(*name, before)) else {
-            unreachable!()
-        };
+        self.writes.push_reserved(Write::OfTerm(*name, before));
         Ok(())
     }
 
@@ -105,16 +103,14 @@ impl InPlace {
         ensures err { OnErr result (self.new.maps ≡ self.old.maps) }
         ensures keys { self.new.keys ≡ self.old.keys }
     {
-        self.writes.reserve(1)?;
+        make_room(&mut self.writes)?;
         let found = self
             .tables
             .write_ctx(number, Place::of(entry), &self.writes)?;
         let Found::Unlogged(before) = found else {
             return Ok(());
         };
-        let Ok(()) = self.writes.push(Write::OfCtx(number, before)) else {
-            unreachable!()
-        };
+        self.writes.push_reserved(Write::OfCtx(number, before));
         Ok(())
     }
 
@@ -126,14 +122,13 @@ impl InPlace {
         ensures err { OnErr result (self.new.maps ≡ self.old.maps) }
         ensures keys { self.new.keys ≡ self.old.keys }
     {
-        self.writes.reserve(1)?;
+        make_room(&mut self.writes)?;
         let (context, found) = self.tables.take_ctx(number, &self.writes)?;
         let Some(before) = found.into_unlogged() else {
             return Ok(context);
         };
-        let Ok(()) = self.writes.push(Write::OfCtx(number, Some(before))) else {
-            unreachable!()
-        };
+        self.writes
+            .push_reserved(Write::OfCtx(number, Some(before)));
         Ok(context)
     }
 
@@ -148,14 +143,13 @@ impl InPlace {
         ensures maps { OnOk result (self.new.maps ≡ put_service service name.now self.old.maps (term self.old.maps name.now)) }
         ensures keys { self.new.keys ≡ self.old.keys }
     {
-        self.writes.reserve(1)?;
+        make_room(&mut self.writes)?;
         let found = self.tables.set_service(guide, name, service, &self.writes)?;
         let Some(before) = found.into_unlogged() else {
             return Ok(());
         };
-        let Ok(()) = self.writes.push(Write::OfTerm(*name, Some(before))) else {
-            unreachable!()
-        };
+        self.writes
+            .push_reserved(Write::OfTerm(*name, Some(before)));
         Ok(())
     }
 

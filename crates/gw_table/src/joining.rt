@@ -18,7 +18,7 @@ use crate::part::Part;
 use crate::place::Place;
 use crate::row::{Found, Row};
 use crate::tables::Tables;
-use crate::undo_log::Write;
+use crate::undo_log::{Write, make_room};
 use gw_base::{CtxNum, Key, NoMemory, TermName};
 use gw_ctx::{Context, JoinFault};
 use std::alloc::Global;
@@ -157,14 +157,12 @@ impl InPlace {
         ensures maps { OnOk result (self.new.maps ≡ with_member number name self.old.maps) }
         ensures keys { self.new.keys ≡ self.old.keys }
     {
-        self.writes.reserve(1)?;
+        make_room(&mut self.writes)?;
         let found = self.tables.join(alloc, number, name, limit, &self.writes)?;
         let Found::Unlogged(before) = found else {
             return Ok(());
         };
-        let Ok(()) = self.writes.push(Write::OfCtx(number, before)) else {
-            unreachable!()
-        };
+        self.writes.push_reserved(Write::OfCtx(number, before));
         Ok(())
     }
 
@@ -174,14 +172,13 @@ impl InPlace {
         ensures maps { OnOk result (self.new.maps ≡ without_member number name.now self.old.maps) }
         ensures keys { self.new.keys ≡ self.old.keys }
     {
-        self.writes.reserve(1)?;
+        make_room(&mut self.writes)?;
         let found = self.tables.leave(number, name, &self.writes)?;
         let Some(before) = found.into_unlogged() else {
             return Ok(());
         };
-        let Ok(()) = self.writes.push(Write::OfCtx(number, Some(before))) else {
-            unreachable!()
-        };
+        self.writes
+            .push_reserved(Write::OfCtx(number, Some(before)));
         Ok(())
     }
 }

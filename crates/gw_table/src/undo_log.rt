@@ -1,6 +1,6 @@
 //! What stood at keys of tables before they were written: an undo log.
 
-ghost use Rattle.std.specs.Prelude.{◌≡◌, true, false, Decides, [], ◌∷◌};
+ghost use Rattle.std.specs.Prelude.{◌≡◌, ◌<◌, true, false, Decides, [], ◌∷◌, OnOk, vec_len, vec_capacity};
 ghost use Rattle.gw_base.specs.Keys.{same_key};
 ghost use Rattle.gw_table.specs.UndoLog.{key_written, keys_written, logs_properties, without_write, undone};
 ghost use Rattle.gw_table.specs.Stored.{maps_of, is_ready, is_out, AreReady, AreIn, AreAsReady, AreAsOut, AreSweptAmong, KeepReady, NoneIsOut, WereSwept};
@@ -9,7 +9,7 @@ use crate::place::Place;
 use crate::rows::Guide;
 use crate::setting::Setting;
 use crate::tables::Tables;
-use gw_base::{CtxNum, Key, TermName};
+use gw_base::{CtxNum, Key, NoMemory, TermName};
 use gw_ctx::Context;
 use gw_term::Termination;
 use std::alloc::Global;
@@ -21,6 +21,24 @@ const MANY: usize = 64;
 /// Whether of so many writes in so many rows all rows are passed over.
 fn are_many(writes: usize, rows: usize) -> bool {
     writes >= MANY && writes >= rows / 4
+}
+
+/// How much room is made at once, from the second time on: for the writes of a context that comes or goes with its
+/// members.
+const ROOM: usize = 64;
+
+/// Makes room for one more write.
+///
+/// # Errors
+///
+/// Out of memory.
+pub(crate) fn make_room(writes: &mut Vec<Write>) -> Result<(), NoMemory>
+    ensures same { writes.new.items ≡ writes.old.items }
+    ensures room { OnOk result (vec_len writes.new < vec_capacity writes.new) }
+{
+    let is_grown = !writes.is_empty() && writes.len() == writes.capacity();
+    writes.reserve(if is_grown { ROOM } else { 1 })?;
+    Ok(())
 }
 
 /// What stood at a key before a write of it.

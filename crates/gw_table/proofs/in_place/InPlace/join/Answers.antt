@@ -22,10 +22,10 @@ invariant_of-self-in_default c =
     let start : Stored = before_all c.self.inside.earlier.value c.self.inside.before.value in
     let at : Option ContextRecord = ctx (maps_of old) c.args.number in
     let new : Place ContextRecord = Here (joined c.args.name (context_of at)) in
-    same_in_place start (put_ctx_place old c.args.number new) c.join.new.self c.self.inside.writes.items c.reserve.new.self.items
-    c.in_ok-found.ensures.after c.in_ok-reserve.ensures.items
+    same_in_place start (put_ctx_place old c.args.number new) c.join.new.self c.self.inside.writes.items c.make_room.new.writes.items
+    c.in_ok-found.ensures.after c.in_ok-make_room.ensures.same
     (wrote_ctx_again start old c.self.inside.writes.items c.self.invariant c.args.number new refl
-    (logged_before c.self.inside.writes.items c.deref.result.now (Ctx c.args.number) at c.in_ok-found.found (c.deref.ensures.value ∙ c.in_ok-reserve.ensures.items) c.in_default.is c.in_ok-found.ensures.found))
+    (logged_before c.self.inside.writes.items c.deref.result.now (Ctx c.args.number) at c.in_ok-found.found (c.deref.ensures.value ∙ c.in_ok-make_room.ensures.same) c.in_default.is c.in_ok-found.ensures.found))
 
 pub returns-in_default-clause-maps : goal.returns-in_default-clause-maps
 returns-in_default-clause-maps c =
@@ -41,9 +41,9 @@ invariant_of-self-2 c =
     let start : Stored = before_all c.self.inside.earlier.value c.self.inside.before.value in
     let at : Option ContextRecord = ctx (maps_of old) c.args.number in
     let new : Place ContextRecord = Here (joined c.args.name (context_of at)) in
-    same_in_place start (put_ctx_place old c.args.number new) c.join.new.self (c.self.inside.writes.items ++ OfCtx c.args.number c.in-Unlogged.before ∷ []) c.push.new.self.items
+    same_in_place start (put_ctx_place old c.args.number new) c.join.new.self (c.self.inside.writes.items ++ OfCtx c.args.number c.in-Unlogged.before ∷ []) c.push_reserved.new.self.items
     c.in_ok-found.ensures.after
-    (c.in-Ok.ensures.items ∙ ap (λ (l : List Write). l ++ OfCtx c.args.number c.in-Unlogged.before ∷ []) c.in_ok-reserve.ensures.items)
+    (c.push_reserved.ensures.items ∙ ap (λ (l : List Write). l ++ OfCtx c.args.number c.in-Unlogged.before ∷ []) c.in_ok-make_room.ensures.same)
     (wrote_ctx start old c.self.inside.writes.items c.self.invariant c.args.number new c.in-Unlogged.before refl
     (stood_there (keys_written c.deref.result.now) (Ctx c.args.number) at c.in_ok-found.found c.in-Unlogged.before c.in-Unlogged.is c.in_ok-found.ensures.found))
 

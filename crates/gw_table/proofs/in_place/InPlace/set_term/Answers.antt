@@ -16,10 +16,10 @@ pub invariant_of-self-in_default : goal.invariant_of-self-in_default
 invariant_of-self-in_default c =
     let old : Stored = c.self.inside.tables in
     let start : Stored = before_all c.self.inside.earlier.value c.self.inside.before.value in
-    same_in_place start (put_term_place old c.args.name.now (placed c.args.entry)) c.write_term.new.self c.self.inside.writes.items c.reserve.new.self.items
-    (c.in_ok-found.ensures.ok ∙ ap (λ p. put_term_place old c.args.name.now p) c.of.ensures) c.in_ok-reserve.ensures.items
+    same_in_place start (put_term_place old c.args.name.now (placed c.args.entry)) c.write_term.new.self c.self.inside.writes.items c.make_room.new.writes.items
+    (c.in_ok-found.ensures.ok ∙ ap (λ p. put_term_place old c.args.name.now p) c.of.ensures) c.in_ok-make_room.ensures.same
     (wrote_term_again start old c.self.inside.writes.items c.self.invariant c.args.name.now (placed c.args.entry) (placed_here c.args.entry)
-    (logged_before c.self.inside.writes.items c.deref.result.now (Term c.args.name.now) (term (maps_of old) c.args.name.now) c.in_ok-found.found (c.deref.ensures.value ∙ c.in_ok-reserve.ensures.items) c.in_default.is c.in_ok-found.ensures.found))
+    (logged_before c.self.inside.writes.items c.deref.result.now (Term c.args.name.now) (term (maps_of old) c.args.name.now) c.in_ok-found.found (c.deref.ensures.value ∙ c.in_ok-make_room.ensures.same) c.in_default.is c.in_ok-found.ensures.found))
 
 pub returns-in_default-clause-maps : goal.returns-in_default-clause-maps
 returns-in_default-clause-maps c =
@@ -32,9 +32,9 @@ pub invariant_of-self-2 : goal.invariant_of-self-2
 invariant_of-self-2 c =
     let old : Stored = c.self.inside.tables in
     let start : Stored = before_all c.self.inside.earlier.value c.self.inside.before.value in
-    same_in_place start (put_term_place old c.args.name.now (placed c.args.entry)) c.write_term.new.self (c.self.inside.writes.items ++ OfTerm c.args.name.now c.in-Unlogged.before ∷ []) c.push.new.self.items
+    same_in_place start (put_term_place old c.args.name.now (placed c.args.entry)) c.write_term.new.self (c.self.inside.writes.items ++ OfTerm c.args.name.now c.in-Unlogged.before ∷ []) c.push_reserved.new.self.items
     (c.in_ok-found.ensures.ok ∙ ap (λ p. put_term_place old c.args.name.now p) c.of.ensures)
-    (c.in-Ok.ensures.items ∙ ap (λ (l : List Write). l ++ OfTerm c.args.name.now c.in-Unlogged.before ∷ []) c.in_ok-reserve.ensures.items)
+    (c.push_reserved.ensures.items ∙ ap (λ (l : List Write). l ++ OfTerm c.args.name.now c.in-Unlogged.before ∷ []) c.in_ok-make_room.ensures.same)
     (wrote_term start old c.self.inside.writes.items c.self.invariant c.args.name.now (placed c.args.entry) c.in-Unlogged.before (placed_here c.args.entry)
     (stood_there (keys_written c.deref.result.now) (Term c.args.name.now) (term (maps_of old) c.args.name.now) c.in_ok-found.found c.in-Unlogged.before c.in-Unlogged.is c.in_ok-found.ensures.found))
 
