@@ -301,7 +301,7 @@ pub fn command(
     ensures answer { IfOk result (λ done. done ≡ (command_done rules.now at slot command.now draft.old.maps).answer) }
     ensures keys { draft.new.keys ≡ draft.old.keys }
 {
-    let mut prepared = Prepared::new(rules, command);
+    let mut prepared = Prepared::new(rules, command, false);
     let writer = ReplyWriter::All(Items::new(alloc));
     let CmdWritten {
         written,

@@ -1,6 +1,7 @@
 //! A command with what is found of it once, for all contexts and terminations.
 
 ghost use Rattle.std.specs.Prelude.{◌≡◌};
+ghost use Rattle.std.specs.Option.{ForSome};
 ghost use Rattle.gw_base.specs.declared.ids.CtxNum.{CtxNum};
 ghost use Rattle.gw_desc.specs.Checks.{check_code};
 ghost use Rattle.gw_refusal.specs.declared.at.At.TheVariants.{Each};
@@ -21,15 +22,15 @@ pub struct Prepared<'a, 'b> {
     pub rules: &'a Rules,
     /// The command.
     pub command: &'a Command<'b>,
-    /// Why its form is refused in each of the contexts of an action with `*`.
-    refused_in_each: Option<Code>,
+    /// Why its form is refused in each of the contexts of an action with `*`, if it is for one.
+    refused_in_each: Option<Option<Code>>,
     /// What is wrong with its descriptors.
     pub(crate) wrong: Option<Code>,
     /// The service state of its Method.
     service: Option<Service>,
     /// Its descriptors, as they are merged into records.
     pub(crate) merger: Merger<'a, 'b>,
-    ghost refused: { (n : CtxNum) → refused_in_each ≡ refusal_by_form (Each n) command.now },
+    ghost refused: { ForSome refused_in_each (λ refused. (n : CtxNum) → refused ≡ refusal_by_form (Each n) command.now) },
     ghost checked: { wrong ≡ check_code command.now.verb command.now.descriptors },
     ghost served: { service ≡ requested_service command.now.descriptors },
     ghost ruled: { merger.rules.now ≡ rules.now },
@@ -58,15 +59,20 @@ impl<'a, 'b> Prepared<'a, 'b> {
     ghost use Rattle.gw_cmd.specs.Prepared.{IsSameCommand};
     ghost use Rattle.gw_cmd.specs.Tasks.{IsJudged};
 
-    /// The command under the rules. It takes no memory; the work is that of looking at its descriptors.
-    pub fn new(rules: &'a Rules, command: &'a Command<'b>) -> Prepared<'a, 'b>
+    /// The command under the rules; `for_each` where it is one of an action with `*`. It takes no memory; the work is
+    /// that of looking at its descriptors.
+    pub fn new(rules: &'a Rules, command: &'a Command<'b>, for_each: bool) -> Prepared<'a, 'b>
         ensures rules { result.rules.now ≡ rules.now }
         ensures command { result.command.now ≡ command.now }
     {
         Prepared {
             rules,
             command,
-            refused_in_each: refusal_in_each(command),
+            refused_in_each: if for_each {
+                Some(refusal_in_each(command))
+            } else {
+                None
+            },
             wrong: wrong_with(command),
             service: requested_service(command.descriptors.as_slice()),
             merger: Merger::new(rules, command.descriptors.as_slice()),
@@ -77,8 +83,8 @@ impl<'a, 'b> Prepared<'a, 'b> {
     fn refusal(&self, at: At) -> Option<Code>
         ensures { result ≡ refusal_by_form at self.now.command.now }
     {
-        match at {
-            At::Each(_) => self.refused_in_each,
+        match (at, self.refused_in_each) {
+            (At::Each(_), Some(refused)) => refused,
             _ => refusal_by_form(at, self.command),
         }
     }

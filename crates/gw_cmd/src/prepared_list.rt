@@ -22,7 +22,7 @@ pub fn all_prepared<'a, 'b>(
 {
     let mut list = Vec::with_capacity(alloc, commands.len())?;
     for command in commands {
-        list.push(Prepared::new(rules, command))?;
+        list.push(Prepared::new(rules, command, true))?;
     }
     Ok(list)
 }

@@ -79,7 +79,7 @@ fn commands(
     for command in sent {
         let (slot, later) = next_entry(left);
         left = later;
-        let mut prepared = Prepared::new(task.rules, command);
+        let mut prepared = Prepared::new(task.rules, command, false);
         let done = attempt(alloc, draft, late, at, slot, &mut prepared, writer)?;
         at = done.next;
         writer = done.writer;
