@@ -17,6 +17,17 @@ use gw_reply::{ActionReply, ContextPart, ReplyWriter};
 use gw_table::Draft;
 use std::alloc::Global;
 
+/// The links of a context.
+fn links_of(alloc: Global, context: &Context) -> Result<Items<Link>, NoMemory>
+    ensures { IfOk result (λ links. links ≡ context.now.links) }
+{
+    let mut links = Items::new(alloc);
+    for link in context.links() {
+        links.push(link)?;
+    }
+    Ok(links)
+}
+
 /// Writes the links, if there are any.
 fn write_links(
     alloc: Global,
@@ -25,11 +36,11 @@ fn write_links(
 ) -> Result<ReplyWriter<ContextPart>, NoMemory>
     ensures { IfOk result (λ all. all ≡ written_behind context_part_text writer (link_parts context.now.links)) }
 {
-    let links: Vec<Link> = context.links().collect(alloc)?;
+    let links = links_of(alloc, context)?;
     if links.is_empty() {
         return Ok(writer);
     }
-    writer.write(ContextPart::Topology(Items::from(links)))
+    writer.write(ContextPart::Topology(links))
 }
 
 /// Writes one item. No emergency and no link is written as nothing.
