@@ -17,6 +17,7 @@ others than in another, or with 4,096 kept replies than with 4.
 processors are counted together; it fails where three take more than 4,000 more than one on 1,024 contexts, or 1.3 times as many on one.
 `--records` measures what executing costs beside the burst, and the memory of bare terminations; it fails where one is more
 than a tenth above its limit.
+Without words all is measured but waves, which speak of several workers.
 """
 import pathlib
 import re
@@ -275,7 +276,7 @@ CHOICES = ["--rates", "--tables", "--bursts", "--samples", "--waves", "--records
 
 def main():
     with tempfile.TemporaryDirectory() as folder:
-        chosen = usage.words(__doc__, lambda word: word in CHOICES) or CHOICES
+        chosen = usage.words(__doc__, lambda word: word in CHOICES) or [word for word in CHOICES if word != "--waves"]
         for word, measure in (("--rates", rates), ("--tables", tables), ("--bursts", repeats)):
             if word in chosen:
                 measure(folder)
