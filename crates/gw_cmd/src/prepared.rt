@@ -9,7 +9,7 @@ ghost use Rattle.gw_refusal.specs.Requested.{requested_service};
 ghost use Rattle.gw_refusal.specs.Forms.{refusal_by_form};
 
 use crate::task::{Task, task_of};
-use gw_base::{Code, CtxNum, Rules, Service};
+use gw_base::{Code, CtxNum, Rules, Service, TermRef};
 use gw_desc::check;
 use gw_msg::Command;
 use gw_refusal::{At, refusal_by_form, requested_service};
@@ -65,6 +65,7 @@ impl<'a, 'b> Prepared<'a, 'b> {
         ensures rules { result.rules.now ≡ rules.now }
         ensures command { result.command.now ≡ command.now }
     {
+        let several = matches!(command.term, TermRef::All | TermRef::Under(_));
         Prepared {
             rules,
             command,
@@ -75,7 +76,7 @@ impl<'a, 'b> Prepared<'a, 'b> {
             },
             wrong: wrong_with(command),
             service: requested_service(command.descriptors.as_slice()),
-            merger: Merger::new(rules, command.descriptors.as_slice()),
+            merger: Merger::new(rules, command.descriptors.as_slice(), several),
         }
     }
 

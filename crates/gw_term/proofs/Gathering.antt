@@ -179,9 +179,6 @@ properties_after : (descriptors : List Descriptor) (old : List P) → each put_p
 unfolding merged_properties
 properties_after descriptors old = ap (λ (l : List P). each put_property l old) (media_sends descriptors no_media).1 ∙ sym (states_are (flat_map states_in descriptors) old)
 
-pub service_is : (descriptors : List Descriptor) (g : Gathered) (old : Service) → IsGathered descriptors g → unwrap_or g.media.service old ≡ merged_service descriptors old
-service_is descriptors g old gathered = ap (λ (m : SentMedia). unwrap_or m.service old) gathered.media ∙ service_after descriptors old
-
 -- ---- what is sent to a stream
 
 -- what is sent to the stream of this number, if it is named
@@ -333,12 +330,12 @@ module _ (rules : Rules) (descriptors : List Descriptor) (old : Termination) whe
   applied_is : applied_to old rules (media_sent descriptors) (of_kinds (λ kind. last_tail kind descriptors)) ≡ option_map applied_of (merged_media rules descriptors old)
   unfolding merged_media
   applied_is =
-      (λ i. and_then (properties_after descriptors old.settings.properties i) (λ properties.
-      option_map (λ o. (record { place = old.place; service = service_after descriptors old.service i; slot = old.slot; settings = o.settings }, o.filled))
-      (with_streams_of rules old.slot (media_sent descriptors) before (record { settings = record nothing_set { properties = properties; tails = of_kinds (λ kind. tail_after kind i) }; filled = [] }))))
+      (λ i. option_map (λ o. (record { place = old.place; service = service_after descriptors old.service i; slot = old.slot; settings = o.settings }, o.filled))
+      (and_then (properties_after descriptors old.settings.properties i) (λ properties.
+      with_streams_of rules old.slot (media_sent descriptors) before (record { settings = record nothing_set { properties = properties; tails = of_kinds (λ kind. tail_after kind i) }; filled = [] }))))
       ∙ by (merged_properties descriptors old.settings.properties)
     where
-      by : (o : Option (List P)) → and_then o (λ properties. option_map finished (with_streams_of rules old.slot (media_sent descriptors) before (begun_with properties)))
+      by : (o : Option (List P)) → option_map finished (and_then o (λ properties. with_streams_of rules old.slot (media_sent descriptors) before (begun_with properties)))
           ≡ option_map applied_of (and_then o (λ properties. and_then (and_then (of_number 1 before.first) (λ first. and_then (of_number 2 before.second) (λ second. and_then (of_number 3 before.third) (λ third. and_then (of_number 4 before.fourth) (λ fourth.
           Some (let x : PerStream (Option Merging) = record { first = first; second = second; third = third; fourth = fourth } in x))))))
           (λ streams. Some (let x : Media = record { properties = properties; streams = streams } in x))))

@@ -11,5 +11,4 @@ pub mod KeptAudits
 pub mod SettingLists
 pub mod NameTags
 pub mod SamePlaces
-pub mod Unfilled
 pub mod MadeOnce

@@ -27,7 +27,7 @@ use Rattle.gw_term.specs.declared.streams.Outcome.{Outcome}
 use Rattle.gw_term.specs.Lookups.{tails_sent}
 use Rattle.gw_term.specs.Merge.{and_then, each, put_property, local_text, is_filled, begun, filled_in, kept_tail, media_parts}
 use Rattle.gw_term.specs.Places.{of_kinds, at_kind, kinds_read}
-use Rattle.gw_term.specs.Settings.{nothing_set, with_setting}
+use Rattle.gw_term.specs.Settings.{Settings, nothing_set, with_setting}
 
 -- what each makes in turn of what those before it made
 abbrev pub in_turn : {S X : Type 0} → (X → S → S) → List X → S → S
@@ -150,12 +150,31 @@ tail_of_sent (Some tail) old = kept_tail tail
 abbrev pub tails_after : (sent old : PerKind (Option (Tail (List ℕ)))) → PerKind (Option (Tail (List ℕ)))
 tails_after sent old = of_kinds (λ kind. tail_of_sent (at_kind kind sent) (at_kind kind old))
 
+-- what is set where this was, and the streams whose Local was filled
+abbrev pub outcome_of : Rules → Option ℕ → SentMedia → PerKind (Option (Tail (List ℕ))) → Settings → Option Outcome
+outcome_of rules slot m tails old =
+    and_then (each put_property m.properties old.properties) (λ properties.
+    with_streams_of rules slot m old.streams (record {
+      settings = record nothing_set { properties = properties; tails = tails_after tails old.tails };
+      filled = [];
+    }))
+
 -- a record after what is sent, and the streams whose Local was filled
 abbrev pub applied_to : Termination → Rules → SentMedia → PerKind (Option (Tail (List ℕ))) → Option (Termination × List FilledStream)
 applied_to old rules m tails =
-    and_then (each put_property m.properties old.settings.properties) (λ properties.
     option_map (λ o. (record { place = old.place; service = unwrap_or m.service old.service; slot = old.slot; settings = o.settings }, o.filled))
-    (with_streams_of rules old.slot m old.settings.streams (record {
-      settings = record nothing_set { properties = properties; tails = tails_after tails old.settings.tails };
-      filled = [];
-    })))
+    (outcome_of rules old.slot m tails old.settings)
+
+-- ---- what was made once
+
+-- the same of what descriptors send
+abbrev pub outcome_by : Rules → List Descriptor → Option ℕ → Settings → Option Outcome
+outcome_by rules descriptors slot old = outcome_of rules slot (media_sent descriptors) (of_kinds (λ kind. last_tail kind descriptors)) old
+
+-- what the descriptors make of these settings without a slot, which is to fill nothing
+abbrev pub IsMadeOf : Rules → List Descriptor → (before after : Settings) → Type 0
+IsMadeOf rules descriptors before after = outcome_by rules descriptors None before ≡ Some (record { settings = after; filled = [] })
+
+-- they make the same whatever the slot
+abbrev pub IsForEachSlot : Rules → List Descriptor → Type 0
+IsForEachSlot rules descriptors = (slot : Option ℕ) (old : Settings) → outcome_by rules descriptors slot old ≡ outcome_by rules descriptors None old

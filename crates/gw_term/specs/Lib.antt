@@ -13,4 +13,3 @@ pub mod Lookups
 pub mod NameTags
 pub mod KeptRecords
 pub mod Gathered
-pub mod Plain

@@ -11,7 +11,6 @@ mod laws;
 mod merger;
 mod names;
 mod places;
-mod plain;
 mod properties;
 mod record;
 mod same;

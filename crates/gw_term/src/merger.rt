@@ -3,62 +3,57 @@
 ghost use Rattle.std.specs.Prelude.{◌≡◌, true, IfOk, IfSome, Ok, Some};
 ghost use Rattle.std.specs.Option.{ForSome};
 ghost use Rattle.gw_term.specs.Applies.{IsMerged};
-ghost use Rattle.gw_term.specs.Gathered.{IsGathered};
-ghost use Rattle.gw_term.specs.Merge.{merged};
-ghost use Rattle.gw_term.specs.Plain.{are_plain, fill_none, IsMadeOf};
+ghost use Rattle.gw_term.specs.Gathered.{outcome_by, IsForEachSlot, IsGathered, IsMadeOf};
 
 use crate::apply::{Applied, merge};
 use crate::fault::ApplyFault;
 use crate::gathered::Gathered;
-use crate::plain::are_plain;
 use crate::record::Termination;
 use crate::settings::Settings;
 use gw_base::{Items, NoMemory, Rules};
 use gw_desc::Descriptor;
 use std::alloc::{AllocError, Global};
 
-/// Descriptors that are merged into one record after another, under the gateway's rules. What they made of the
-/// settings met last is kept: the next record with the same settings shares that block, if they fill nothing of it,
-/// and any other the long texts in it.
+/// Descriptors that are merged into one record after another, under the gateway's rules. Where there are several, what
+/// they made of the settings met last is kept: the next record with the same settings shares that block, if they fill
+/// nothing of it, and any other the long texts in it.
 #[derive(Drop)]
 pub struct Merger<'a, 'b> {
     /// The rules.
     pub rules: &'a Rules,
     /// The descriptors, of which no code of `check` applies, taken as those of an Add.
     pub descriptors: &'a [Descriptor<'b>],
-    is_plain: bool,
+    /// Whether what they make of one record is kept for others.
+    several: bool,
+    /// Whether they are known to fill nothing, whatever the slot is.
+    fills_none: bool,
     /// What the descriptors send, once it was requested.
     gathered: Option<Gathered<'b, 'a>>,
     /// The settings met last, if nothing of them was filled.
     before: Option<Settings>,
     /// What was made of the settings met last.
     after: Settings,
-    ghost plain: { is_plain ≡ are_plain descriptors.now },
+    ghost same: { fills_none ≡ true → IsForEachSlot rules.now descriptors.now },
     ghost sends: { ForSome gathered (IsGathered descriptors.now) },
     ghost made: { ForSome before (λ before. IsMadeOf rules.now descriptors.now before after) },
 }
 
 impl<'a, 'b> Merger<'a, 'b> {
-    /// Nothing was merged yet. It takes no memory; the work is a pass over the descriptors.
-    pub fn new(rules: &'a Rules, descriptors: &'a [Descriptor<'b>]) -> Merger<'a, 'b>
+    /// Nothing was merged yet. Where the descriptors are for one record, and not for several, nothing is kept. It
+    /// takes no memory.
+    pub fn new(rules: &'a Rules, descriptors: &'a [Descriptor<'b>], several: bool) -> Merger<'a, 'b>
         ensures rules { result.rules.now ≡ rules.now }
         ensures descriptors { result.descriptors.now ≡ descriptors.now }
     {
         Merger {
             rules,
             descriptors,
-            is_plain: are_plain(descriptors),
+            several,
+            fills_none: false,
             gathered: None,
             before: None,
             after: Settings::none(),
         }
-    }
-
-    /// Whether the descriptors fill nothing of a termination with this slot, or with none.
-    fn fills_none(&self, slot: Option<u16>) -> bool
-        ensures { result ≡ fill_none self.now.descriptors.now slot }
-    {
-        self.is_plain || slot.is_none()
     }
 
     /// The record after the descriptors, if nothing is filled and its settings are those that were met last.
@@ -68,7 +63,7 @@ impl<'a, 'b> Merger<'a, 'b> {
         let (Some(sent), Some(before)) = (&self.gathered, &self.before) else {
             return Ok(None);
         };
-        if !self.fills_none(old.slot) || !old.settings.is_same(before) {
+        if (old.slot.is_some() && !self.fills_none) || !old.settings.is_same(before) {
             return Ok(None);
         }
         let record = Termination {
@@ -83,18 +78,22 @@ impl<'a, 'b> Merger<'a, 'b> {
 
     /// What was made of a record is kept.
     #[tactic(auto, using(crate::proofs::MadeOnce::made_of))]
-    fn keep(&mut self, old: &Termination, new: &Termination) -> Result<(), NoMemory>
-        requires { merged self.old.rules.now self.old.descriptors.now old.now ≡ Some new.now }
+    fn keep(&mut self, old: &Termination, new: &Applied) -> Result<(), NoMemory>
+        requires { outcome_by self.old.rules.now self.old.descriptors.now old.now.slot old.now.settings ≡ Some (record { settings = new.now.record.settings; filled = new.now.filled }) }
         ensures rules { self.new.rules.now ≡ self.old.rules.now }
         ensures descriptors { self.new.descriptors.now ≡ self.old.descriptors.now }
     {
-        let before = if self.fills_none(old.slot) {
-            Some(old.settings.copied()?)
-        } else {
-            None
-        };
-        self.after = new.settings.copied()?;
-        self.before = before;
+        let after = new.record.settings.copied()?;
+        if !new.filled.is_empty() {
+            self.before = None;
+            self.after = after;
+            return Ok(());
+        }
+        self.before = Some(old.settings.copied()?);
+        self.after = after;
+        if old.slot.is_some() {
+            self.fills_none = true;
+        }
         Ok(())
     }
 
@@ -119,7 +118,9 @@ impl<'a, 'b> Merger<'a, 'b> {
             unreachable!()
         };
         let applied = merge(alloc, self.rules, sent, old, &self.after)?;
-        self.keep(old, &applied.record)?;
+        if self.several {
+            self.keep(old, &applied)?;
+        }
         Ok(applied)
     }
 }
