@@ -14,6 +14,7 @@ text_of (Some text) = text
 -- a text that is kept, wherever it lies
 abbrev pub text_in : Form → Option (List ℕ)
 text_in form.Missing = None
+text_in (form.Here short) = Some short
 text_in (form.Own block) = Some block.items
 text_in (form.Shared block) = Some (arc_slice_items block)
 

@@ -1,7 +1,6 @@
 pub mod Places
 pub mod Settings
 pub mod HeldTexts
-pub mod JoinedTexts
 pub mod Record
 pub mod Merge
 pub mod Audit

@@ -1,15 +1,14 @@
 //! What descriptors send to each list and to each stream, gathered once for all records that they are merged into.
 
 ghost use Rattle.std.specs.Prelude.{◌≡◌, IfOk, OnOk};
-ghost use Rattle.std.specs.Option.{option_copied};
-ghost use Rattle.gw_term.specs.Gathered.{in_turn, last_tail, media_sent, named_with, no_media, nothing_sent, with_control, with_media_part, with_part, with_state, with_stream, IsGathered};
+ghost use Rattle.gw_term.specs.Gathered.{in_turn, named_with, no_media, nothing_sent, with_control, with_media_part, with_part, with_state, with_stream, IsGathered};
 
 use crate::held::HeldProperty;
 use crate::places::PerKind;
 use gw_base::{Held, Items, Service, Span};
 use gw_desc::{
-    Descriptor, KeptKind, MediaPart, Mode, Property, StreamPart, Tail, is_mode, is_service_states,
-    mode_set_by, same_kept, service_set_by,
+    Descriptor, MediaPart, Mode, Property, StreamPart, Tail, is_mode, is_service_states,
+    mode_set_by, service_set_by,
 };
 use std::alloc::{AllocError, Global};
 use std::array;
@@ -70,21 +69,7 @@ impl<'a> SentStream<'a> {
     }
 }
 
-/// A property of a LocalControl is sent too.
-fn add_control(
-    alloc: Global,
-    property: &Property<Span<'_>>,
-    sent: &mut SentStream<'_>,
-) -> Result<(), AllocError>
-    ensures { OnOk result (sent.new ≡ with_control property.now sent.old) }
-{
-    if is_mode(property.name.as_bytes()) {
-        sent.mode = mode_set_by(property).or(sent.mode);
-        return Ok(());
-    }
-    sent.properties.push(HeldProperty::of(alloc, property)?)
-}
-
+/// The properties of a LocalControl are sent too.
 fn add_controls(
     alloc: Global,
     properties: &[Property<Span<'_>>],
@@ -93,27 +78,16 @@ fn add_controls(
     ensures { OnOk result (sent.new ≡ in_turn with_control properties.now sent.old) }
 {
     for property in properties {
-        add_control(alloc, property, sent)?;
+        if is_mode(property.name.as_bytes()) {
+            sent.mode = mode_set_by(property).or(sent.mode);
+        } else {
+            sent.properties.push(HeldProperty::of(alloc, property)?)?;
+        }
     }
     Ok(())
 }
 
-/// A part of a stream is sent too.
-fn add_part<'a>(
-    alloc: Global,
-    part: &StreamPart<'a>,
-    sent: &mut SentStream<'a>,
-) -> Result<(), AllocError>
-    ensures { OnOk result (sent.new ≡ with_part part.now sent.old) }
-{
-    match part {
-        StreamPart::Local(text) => sent.local = Some(Span::new(text.as_bytes())),
-        StreamPart::Remote(text) => sent.remote = Some(Span::new(text.as_bytes())),
-        StreamPart::LocalControl(properties) => add_controls(alloc, properties.as_slice(), sent)?,
-    }
-    Ok(())
-}
-
+/// The parts of a stream are sent too.
 fn add_parts<'a>(
     alloc: Global,
     parts: &[StreamPart<'a>],
@@ -122,7 +96,11 @@ fn add_parts<'a>(
     ensures { OnOk result (sent.new ≡ in_turn with_part parts.now sent.old) }
 {
     for part in parts {
-        add_part(alloc, part, sent)?;
+        match part {
+            StreamPart::Local(text) => sent.local = Some(Span::new(text.as_bytes())),
+            StreamPart::Remote(text) => sent.remote = Some(Span::new(text.as_bytes())),
+            StreamPart::LocalControl(list) => add_controls(alloc, list.as_slice(), sent)?,
+        }
     }
     Ok(())
 }
@@ -177,17 +155,7 @@ impl<'a> SentMedia<'a> {
         }
     }
 
-    /// A property of a TerminationState is sent too.
-    fn add_state(&mut self, alloc: Global, property: &Property<Span<'_>>) -> Result<(), AllocError>
-        ensures { OnOk result (self.new ≡ with_state property.now self.old) }
-    {
-        if is_service_states(property.name.as_bytes()) {
-            self.service = service_set_by(property).or(self.service);
-            return Ok(());
-        }
-        self.properties.push(HeldProperty::of(alloc, property)?)
-    }
-
+    /// The properties of a TerminationState are sent too.
     fn add_states(
         &mut self,
         alloc: Global,
@@ -196,69 +164,30 @@ impl<'a> SentMedia<'a> {
         ensures { OnOk result (self.new ≡ in_turn with_state properties.now self.old) }
     {
         for property in properties {
-            self.add_state(alloc, property)?;
+            if is_service_states(property.name.as_bytes()) {
+                self.service = service_set_by(property).or(self.service);
+            } else {
+                self.properties.push(HeldProperty::of(alloc, property)?)?;
+            }
         }
         Ok(())
     }
 
-    /// A part of a Media is sent too. What stands outside a Stream is of stream 1.
-    fn add_part(&mut self, alloc: Global, part: &MediaPart<'a>) -> Result<(), AllocError>
-        ensures { OnOk result (self.new ≡ with_media_part part.now self.old) }
-    {
-        match part {
-            MediaPart::Outside(part) => self.add_stream(alloc, 1, array::from_ref(part)),
-            MediaPart::Stream(number, parts) => {
-                self.add_stream(alloc, *number, parts.as_slice())
-            }
-            MediaPart::TerminationState(properties) => {
-                self.add_states(alloc, properties.as_slice())
-            }
-        }
-    }
-
+    /// The parts of a Media are sent too. What stands outside a Stream is of stream 1.
     fn add_parts(&mut self, alloc: Global, parts: &[MediaPart<'a>]) -> Result<(), AllocError>
         ensures { OnOk result (self.new ≡ in_turn with_media_part parts.now self.old) }
     {
         for part in parts {
-            self.add_part(alloc, part)?;
+            match part {
+                MediaPart::Outside(part) => self.add_stream(alloc, 1, array::from_ref(part))?,
+                MediaPart::Stream(number, parts) => {
+                    self.add_stream(alloc, *number, parts.as_slice())?
+                }
+                MediaPart::TerminationState(list) => self.add_states(alloc, list.as_slice())?,
+            }
         }
         Ok(())
     }
-
-    /// What the Medias of these descriptors send.
-    fn by(alloc: Global, descriptors: &[Descriptor<'a>]) -> Result<SentMedia<'a>, AllocError>
-        ensures { IfOk result (λ media. media ≡ media_sent descriptors.now) }
-    {
-        let mut media = SentMedia::nothing(alloc);
-        for descriptor in descriptors {
-            match descriptor {
-                Descriptor::Media(parts) => media.add_parts(alloc, parts.as_slice())?,
-                Descriptor::Keep(_, _)
-                | Descriptor::Audit(_)
-                | Descriptor::Services(_)
-                | Descriptor::Other(_) => {}
-            }
-        }
-        Ok(media)
-    }
-}
-
-/// The last tail of this kind that is sent, if one is.
-fn tail_sent<'a, 'b>(
-    kind: KeptKind,
-    descriptors: &'b [Descriptor<'a>],
-) -> Option<&'b Tail<Span<'a>>>
-    ensures { option_copied result ≡ last_tail kind descriptors.now }
-{
-    let mut last = None;
-    for descriptor in descriptors {
-        if let Descriptor::Keep(other, tail) = descriptor {
-            if same_kept(kind, *other) {
-                last = Some(tail);
-            }
-        }
-    }
-    last
 }
 
 impl<'a, 'b> Gathered<'a, 'b> {
@@ -269,14 +198,20 @@ impl<'a, 'b> Gathered<'a, 'b> {
     ) -> Result<Gathered<'a, 'b>, AllocError>
         ensures { IfOk result (IsGathered descriptors.now) }
     {
-        Ok(Gathered {
-            media: SentMedia::by(alloc, descriptors)?,
-            tails: PerKind {
-                events: tail_sent(KeptKind::Events, descriptors),
-                signals: tail_sent(KeptKind::Signals, descriptors),
-                digit_map: tail_sent(KeptKind::DigitMap, descriptors),
-                event_buffer: tail_sent(KeptKind::EventBuffer, descriptors),
-            },
-        })
+        let mut media = SentMedia::nothing(alloc);
+        let mut tails = PerKind {
+            events: None,
+            signals: None,
+            digit_map: None,
+            event_buffer: None,
+        };
+        for descriptor in descriptors {
+            match descriptor {
+                Descriptor::Media(parts) => media.add_parts(alloc, parts.as_slice())?,
+                Descriptor::Keep(kind, tail) => tails.put(*kind, Some(tail)),
+                Descriptor::Audit(_) | Descriptor::Services(_) | Descriptor::Other(_) => {}
+            }
+        }
+        Ok(Gathered { media, tails })
     }
 }

@@ -5,7 +5,7 @@ ghost use Rattle.gw_term.specs.HeldTexts.{text_of};
 ghost use Rattle.gw_term.specs.Lookups.{is_of_name};
 
 use crate::names::{is_same_name, name_tag};
-use crate::short::Joined;
+use crate::text::Text;
 use gw_base::{Items, Span};
 use gw_desc::{Property, Sign, Tail};
 use gw_reply::{KeptProperty, KeptTail};
@@ -18,7 +18,7 @@ pub struct HeldProperty {
     sign: Sign,
     /// The tag of its name.
     tag: u64,
-    texts: Joined,
+    texts: Text,
     /// How long the name is: where the value begins.
     split: usize,
 }
@@ -26,14 +26,14 @@ pub struct HeldProperty {
 impl Model for HeldProperty {
     ghost use Rattle.std.specs.Prelude.{◌≡◌, ◌≤◌, ℕ, List, length, take};
     ghost use Rattle.gw_desc.specs.declared.descriptor.Property.{Property as PropertyOf};
-    ghost use Rattle.gw_term.specs.HeldTexts.{split_property};
+    ghost use Rattle.gw_term.specs.HeldTexts.{split_property, text_of};
     ghost use Rattle.gw_term.specs.NameTags.{name_tag};
 
     ghost Value = { PropertyOf (List ℕ) };
 
-    ghost view = { λ p. split_property p.sign p.split p.texts };
+    ghost view = { λ p. split_property p.sign p.split (text_of p.texts) };
 
-    ghost invariant = { λ p. (p.split ≤ length p.texts) × (p.tag ≡ name_tag (take p.split p.texts)) };
+    ghost invariant = { λ p. (p.split ≤ length (text_of p.texts)) × (p.tag ≡ name_tag (take p.split (text_of p.texts))) };
 }
 
 fn is_same_sign(a: Sign, b: Sign) -> bool
@@ -60,7 +60,7 @@ impl HeldProperty {
         Ok(HeldProperty {
             sign: property.sign,
             tag: name_tag(name),
-            texts: Joined::of(alloc, name, property.value.as_bytes())?,
+            texts: Text::of(alloc, name, property.value.as_bytes())?,
             split: name.len(),
         })
     }
@@ -92,7 +92,7 @@ impl HeldProperty {
         self.tag == other.tag
             && is_same_sign(self.sign, other.sign)
             && self.split == other.split
-            && self.texts.is_same(&other.texts)
+            && self.texts.as_slice() == other.texts.as_slice()
     }
 
     /// A copy of the property.
@@ -128,7 +128,7 @@ pub struct HeldTail {
     equals: bool,
     has_word: bool,
     has_group: bool,
-    texts: Joined,
+    texts: Text,
     /// How long the word is: where the group begins.
     split: usize,
 }
@@ -136,13 +136,13 @@ pub struct HeldTail {
 impl Model for HeldTail {
     ghost use Rattle.std.specs.Prelude.{◌≤◌, ℕ, List, length};
     ghost use Rattle.gw_desc.specs.declared.descriptor.Tail.{Tail as TailOf};
-    ghost use Rattle.gw_term.specs.HeldTexts.{split_tail};
+    ghost use Rattle.gw_term.specs.HeldTexts.{split_tail, text_of};
 
     ghost Value = { TailOf (List ℕ) };
 
-    ghost view = { λ t. split_tail t.equals t.has_word t.has_group t.split t.texts };
+    ghost view = { λ t. split_tail t.equals t.has_word t.has_group t.split (text_of t.texts) };
 
-    ghost invariant = { λ t. t.split ≤ length t.texts };
+    ghost invariant = { λ t. t.split ≤ length (text_of t.texts) };
 }
 
 /// The text, or none.
@@ -173,17 +173,22 @@ impl HeldTail {
             equals: false,
             has_word: false,
             has_group: false,
-            texts: Joined::nothing(),
+            texts: Text::none(),
             split: 0,
         }
     }
 
-    /// The tail, with copies of its texts.
-    pub(crate) fn of(alloc: Global, tail: &Tail<Span<'_>>) -> Result<HeldTail, AllocError>
+    /// The tail, with copies of its texts, or with those of the other, where they are long and the same.
+    pub(crate) fn of(
+        alloc: Global,
+        tail: &Tail<Span<'_>>,
+        made: Option<&HeldTail>,
+    ) -> Result<HeldTail, AllocError>
         ensures { IfOk result (λ held. held ≡ tail.now) }
     {
         let word = text_of(&tail.word);
-        let texts = Joined::of(alloc, word, text_of(&tail.group))?;
+        let made = made.map(|made| &made.texts);
+        let texts = Text::of(alloc, word, text_of(&tail.group))?.shared_with(alloc, made)?;
         Ok(HeldTail {
             equals: tail.equals,
             has_word: tail.word.is_some(),
@@ -201,7 +206,7 @@ impl HeldTail {
             && self.has_word == other.has_word
             && self.has_group == other.has_group
             && self.split == other.split
-            && self.texts.is_same(&other.texts)
+            && self.texts.as_slice() == other.texts.as_slice()
     }
 
     /// A copy of the tail.
@@ -215,20 +220,6 @@ impl HeldTail {
             texts: self.texts.copied(alloc)?,
             split: self.split,
         })
-    }
-
-    /// The tail, which shares its block with this one, if it is long and the same.
-    pub(crate) fn shared_with(
-        self,
-        alloc: Global,
-        made: Option<&HeldTail>,
-    ) -> Result<HeldTail, AllocError>
-        ensures { IfOk result (λ shared. shared ≡ self) }
-    {
-        match made {
-            Some(made) if self.texts.is_long() && self.is_same(made) => made.copied(alloc),
-            _ => Ok(self),
-        }
     }
 
     /// The tail as a reply has it, with copies of its texts.

@@ -15,7 +15,6 @@ mod properties;
 mod record;
 mod same;
 mod settings;
-mod short;
 mod streams;
 mod tails;
 mod target;

@@ -44,8 +44,8 @@ fn is_blank_group(group: &Option<Span<'_>>) -> bool
     }
 }
 
-/// What is kept of a tail: nothing of one without `=` that has no group, or a blank one. It shares its block with
-/// what was made of it before, if it is long.
+/// What is kept of a tail: nothing of one without `=` that has no group, or a blank one. Long texts are shared with
+/// what was made of it before.
 fn kept_tail(
     alloc: Global,
     tail: &Tail<Span<'_>>,
@@ -56,7 +56,7 @@ fn kept_tail(
     if !tail.equals && is_blank_group(&tail.group) {
         return Ok(None);
     }
-    Ok(Some(HeldTail::of(alloc, tail)?.shared_with(alloc, made)?))
+    Ok(Some(HeldTail::of(alloc, tail, made)?))
 }
 
 /// The tail of this kind after what is sent is set, if there is one then. Not inlined, since most tails are neither
