@@ -1,38 +1,25 @@
 //! What descriptors do to a termination: all of it, or nothing.
 
-ghost use Rattle.std.specs.Prelude.{◌≡◌, IfOk, None};
+ghost use Rattle.std.specs.Prelude.{◌≡◌, None};
 ghost use Rattle.gw_term.specs.Gathered.{applied_to};
 ghost use Rattle.gw_term.specs.Places.{kinds_read};
-ghost use Rattle.gw_term.specs.Settings.{nothing_set};
 ghost use Rattle.gw_term.specs.Applies.{YieldsApplied};
 
 use crate::fault::ApplyFault;
 use crate::gathered::Gathered;
-use crate::held::HeldProperty;
 use crate::properties::merged_properties;
 use crate::record::Termination;
-use crate::settings::{Setting, SettingList, Settings};
+use crate::settings::{SettingList, Settings};
 use crate::streams::{Outcome, merge_streams};
 use crate::tails::merge_tails;
 use crate::target::Target;
 use gw_base::{Items, Rules};
 use gw_desc::Descriptor;
 use gw_reply::FilledStream;
-use std::alloc::{AllocError, Global};
+use std::alloc::Global;
 
 /// The streams whose Local was filled, in rising order.
 pub type Filled = Items<FilledStream>;
-
-/// What is set before streams and tails are: properties, if there are any.
-fn begun(alloc: Global, properties: Items<HeldProperty>) -> Result<SettingList, AllocError>
-    ensures { IfOk result (λ settings. settings ≡ record nothing_set { properties = properties }) }
-{
-    let mut settings = SettingList::new(alloc);
-    if !properties.is_empty() {
-        settings.push(Setting::Properties(properties))?;
-    }
-    Ok(settings)
-}
 
 /// A record after descriptors.
 #[derive(Drop)]
@@ -62,7 +49,7 @@ pub(crate) fn merge(
     let before = old.settings.by_place();
     let properties = merged_properties(alloc, media.properties.as_slice(), before.properties)?;
     let mut outcome = Outcome {
-        settings: begun(alloc, properties)?,
+        settings: SettingList::of(alloc, properties)?,
         filled: Items::new(alloc),
     };
     merge_tails(

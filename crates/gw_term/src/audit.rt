@@ -2,15 +2,14 @@
 
 ghost use Rattle.std.specs.Prelude.{◌≡◌, ◌++◌, IfOk, OnOk};
 ghost use Rattle.std.specs.Option.{option_copied};
-ghost use Rattle.gw_term.specs.Audit.{written_stream, written_media, written_tail, written_item, written_word};
-ghost use Rattle.gw_term.specs.Places.{at_kind, numbers_read, rising};
+ghost use Rattle.gw_term.specs.Audit.{written_stream, written_media, written_item};
+ghost use Rattle.gw_term.specs.Places.{numbers_read, rising};
 
 use crate::held::HeldProperty;
 use crate::places::PerStream;
 use crate::record::{Stream, Termination};
-use crate::settings::Settings;
 use gw_base::{Items, NoMemory};
-use gw_desc::{AuditItem, AuditItems, KeptKind, item_of};
+use gw_desc::{AuditItem, AuditItems, item_of};
 use gw_reply::{AuditReply, KeptProperty, MediaReply, ReplyPart, StreamReply};
 use std::alloc::Global;
 
@@ -76,16 +75,7 @@ fn reply_media(alloc: Global, termination: &Termination) -> Result<MediaReply, N
     })
 }
 
-/// The tail of this kind, or the bare word where there is none.
-fn reply_tail(alloc: Global, kind: KeptKind, settings: &Settings) -> Result<ReplyPart, NoMemory>
-    ensures { IfOk result (λ part. part ≡ written_tail kind (at_kind kind settings.now.tails)) }
-{
-    match settings.by_place().tails.at(kind) {
-        Some(tail) => Ok(ReplyPart::Kept(kind, tail.to_reply(alloc)?)),
-        None => Ok(ReplyPart::Bare(AuditItem::Kept(kind))),
-    }
-}
-
+/// What answers the item: a tail that is not there by its bare word.
 fn reply_part(
     alloc: Global,
     termination: &Termination,
@@ -95,26 +85,14 @@ fn reply_part(
 {
     match item {
         AuditItem::Media => Ok(ReplyPart::Media(reply_media(alloc, termination)?)),
-        AuditItem::Kept(kind) => reply_tail(alloc, kind, &termination.settings),
+        AuditItem::Kept(kind) => match termination.settings.by_place().tails.at(kind) {
+            Some(tail) => Ok(ReplyPart::Kept(kind, tail.to_reply(alloc)?)),
+            None => Ok(ReplyPart::Bare(item)),
+        },
         AuditItem::Statistics | AuditItem::ObservedEvents | AuditItem::Packages => {
             Ok(ReplyPart::Bare(item))
         }
     }
-}
-
-/// What the word requests goes last.
-fn push_part(
-    alloc: Global,
-    termination: &Termination,
-    word: &[u8],
-    parts: &mut AuditReply,
-) -> Result<(), NoMemory>
-    ensures { OnOk result (parts.new ≡ parts.old ++ written_word termination.now word.now) }
-{
-    if let Some(item) = item_of(word) {
-        parts.push(reply_part(alloc, termination, item)?)?;
-    }
-    Ok(())
 }
 
 impl Termination {
@@ -133,7 +111,9 @@ impl Termination {
     {
         let mut parts = Items::new(alloc);
         for word in words.as_slice() {
-            push_part(alloc, self, word.as_bytes(), &mut parts)?;
+            if let Some(item) = item_of(word.as_bytes()) {
+                parts.push(reply_part(alloc, self, item)?)?;
+            }
         }
         Ok(parts)
     }

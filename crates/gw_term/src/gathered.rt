@@ -1,7 +1,7 @@
 //! What descriptors send to each list and to each stream, gathered once for all records that they are merged into.
 
 ghost use Rattle.std.specs.Prelude.{◌≡◌, IfOk, OnOk};
-ghost use Rattle.gw_term.specs.Gathered.{in_turn, named_with, no_media, nothing_sent, with_control, with_media_part, with_part, with_state, with_stream, IsGathered};
+ghost use Rattle.gw_term.specs.Gathered.{in_turn, named_with, nothing_sent, with_control, with_media_part, with_part, with_state, with_stream, IsGathered};
 
 use crate::held::HeldProperty;
 use crate::places::PerKind;
@@ -123,20 +123,6 @@ fn add_stream<'a>(
 }
 
 impl<'a> SentMedia<'a> {
-    /// Nothing. It takes no memory.
-    fn nothing(alloc: Global) -> SentMedia<'a>
-        ensures { result ≡ no_media }
-    {
-        SentMedia {
-            service: None,
-            properties: Items::new(alloc),
-            first: None,
-            second: None,
-            third: None,
-            fourth: None,
-        }
-    }
-
     /// These parts of the stream of this number are sent too.
     fn add_stream(
         &mut self,
@@ -198,7 +184,14 @@ impl<'a, 'b> Gathered<'a, 'b> {
     ) -> Result<Gathered<'a, 'b>, AllocError>
         ensures { IfOk result (IsGathered descriptors.now) }
     {
-        let mut media = SentMedia::nothing(alloc);
+        let mut media = SentMedia {
+            service: None,
+            properties: Items::new(alloc),
+            first: None,
+            second: None,
+            third: None,
+            fourth: None,
+        };
         let mut tails = PerKind {
             events: None,
             signals: None,

@@ -43,21 +43,7 @@ fn put_property(kept: HeldProperty, list: &mut Items<HeldProperty>) -> Result<()
     Ok(())
 }
 
-/// So do copies of these, one after another.
-pub(crate) fn put_properties(
-    alloc: Global,
-    sent: &[HeldProperty],
-    list: &mut Items<HeldProperty>,
-) -> Result<(), ApplyFault>
-    ensures { Becomes result list.new (each put_property sent.now list.old) }
-{
-    for property in sent {
-        put_property(property.copied(alloc)?, list)?;
-    }
-    Ok(())
-}
-
-/// The properties after those that are sent.
+/// The properties after those that are sent, of which copies are put one after another.
 pub(crate) fn merged_properties(
     alloc: Global,
     sent: &[HeldProperty],
@@ -66,6 +52,8 @@ pub(crate) fn merged_properties(
     ensures { Yields result (each put_property sent.now old.now) }
 {
     let mut list = copied_properties(alloc, old)?;
-    put_properties(alloc, sent, &mut list)?;
+    for property in sent {
+        put_property(property.copied(alloc)?, &mut list)?;
+    }
     Ok(list)
 }

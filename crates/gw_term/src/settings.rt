@@ -166,13 +166,20 @@ impl Settings {
 }
 
 impl SettingList {
-    /// Nothing set. It takes no memory.
-    pub(crate) fn new(alloc: Global) -> SettingList
-        ensures { result ≡ nothing_set }
+    /// These properties, if there are any, and nothing else. It takes no memory.
+    pub(crate) fn of(
+        alloc: Global,
+        properties: Items<HeldProperty>,
+    ) -> Result<SettingList, AllocError>
+        ensures { IfOk result (λ settings. settings ≡ record nothing_set { properties = properties }) }
     {
-        SettingList {
+        let mut settings = SettingList {
             list: Short::new(alloc),
+        };
+        if !properties.is_empty() {
+            settings.push(Setting::Properties(properties))?;
         }
+        Ok(settings)
     }
 
     /// This is set too.

@@ -8,11 +8,10 @@ ghost use Rattle.gw_term.specs.Applies.{Becomes, Yields};
 ghost use Rattle.gw_term.specs.Places.{numbers_read};
 
 use crate::apply::Filled;
-use crate::copies::copied_properties;
 use crate::fault::ApplyFault;
 use crate::gathered::{SentMedia, SentStream};
 use crate::places::PerStream;
-use crate::properties::put_properties;
+use crate::properties::merged_properties;
 use crate::record::Stream;
 use crate::settings::{Setting, SettingList};
 use crate::target::Target;
@@ -110,8 +109,8 @@ fn applied(
     requires last { number ≤ 4 }
     ensures { Yields result (applied target.now.rules.now target.now.slot number sent.now (record { stream = old.now; filled = false })) }
 {
-    let mut properties = copied_properties(alloc, old.properties.as_slice())?;
-    put_properties(alloc, sent.properties.as_slice(), &mut properties)?;
+    let list = sent.properties.as_slice();
+    let properties = merged_properties(alloc, list, old.properties.as_slice())?;
     let (local, filled) = local_after(alloc, target, number, &sent.local, &old.local)?;
     let remote = remote_after(alloc, target, number, &sent.remote, &old.remote)?;
     Ok(Merging {

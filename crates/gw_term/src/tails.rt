@@ -5,7 +5,7 @@ ghost use Rattle.gw_text.specs.SpaceScan.{skip};
 ghost use Rattle.std.specs.Option.{option_copied};
 ghost use Rattle.gw_term.specs.Gathered.{tail_of_sent, tails_after};
 ghost use Rattle.gw_term.specs.Places.{at_kind, kinds_read, of_kinds, put_kind};
-ghost use Rattle.gw_term.specs.Merge.{has_blank_inside, is_blank_group, kept_tail};
+ghost use Rattle.gw_term.specs.Merge.{is_blank_group, kept_tail};
 
 use crate::held::HeldTail;
 use crate::places::PerKind;
@@ -24,22 +24,15 @@ fn is_closed(inside: &[u8]) -> bool
     cursor.byte(b'}') && cursor.is_empty()
 }
 
-/// Whether nothing but white space stands between the braces of the group.
-fn has_blank_inside(group: &[u8]) -> bool
-    ensures { result ≡ has_blank_inside group.now }
-{
-    match group {
-        [_, inside @ ..] => is_closed(inside),
-        [] => false,
-    }
-}
-
 /// Whether there is no group, or nothing but white space between its braces.
 fn is_blank_group(group: &Option<Span<'_>>) -> bool
     ensures { result ≡ is_blank_group group.now }
 {
     match group {
-        Some(group) => has_blank_inside(group.as_bytes()),
+        Some(group) => match group.as_bytes() {
+            [_, inside @ ..] => is_closed(inside),
+            [] => false,
+        },
         None => true,
     }
 }
