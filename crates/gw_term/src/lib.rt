@@ -3,7 +3,6 @@
 
 mod apply;
 mod audit;
-mod copies;
 mod fault;
 mod gathered;
 mod held;

@@ -1,17 +1,16 @@
 //! Properties: how one takes its place in a list.
 
-ghost use Rattle.std.specs.Prelude.{◌≡◌, ◌≤◌, length};
+ghost use Rattle.std.specs.Prelude.{◌≡◌, ◌≤◌, length, IfOk};
 ghost use Rattle.gw_term.specs.Merge.{property_place, put_property, each};
 ghost use Rattle.gw_term.specs.Applies.{Becomes, Yields};
 
-use crate::copies::copied_properties;
 use crate::fault::ApplyFault;
 use crate::held::HeldProperty;
 use gw_base::{Code, Items};
-use std::alloc::Global;
+use std::alloc::{AllocError, Global};
 
 /// How many properties a list may hold (own to this profile).
-pub(crate) const MOST_PROPERTIES: usize = 32;
+const MOST_PROPERTIES: usize = 32;
 
 /// The place of the one of the property's name, in any case, or the length of the list.
 fn property_place(property: &HeldProperty, list: &[HeldProperty]) -> usize
@@ -41,6 +40,25 @@ fn put_property(kept: HeldProperty, list: &mut Items<HeldProperty>) -> Result<()
         list.push(kept)?;
     }
     Ok(())
+}
+
+/// A copy of the properties, with room for one more, unless they are as many as a list may hold. Where there are none,
+/// it takes no memory.
+fn copied_properties(
+    alloc: Global,
+    properties: &[HeldProperty],
+) -> Result<Items<HeldProperty>, AllocError>
+    ensures { IfOk result (λ copy. copy ≡ properties.now) }
+{
+    if properties.is_empty() {
+        return Ok(Items::new(alloc));
+    }
+    let room = MOST_PROPERTIES.min(properties.len() + 1);
+    let mut copy = Vec::with_capacity(alloc, room)?;
+    for property in properties {
+        copy.push(property.copied(alloc)?)?;
+    }
+    Ok(Items::from(copy))
 }
 
 /// The properties after those that are sent, of which copies are put one after another.

@@ -1,12 +1,13 @@
 //! The record of a termination.
 
-ghost use Rattle.std.specs.Prelude.{◌≡◌};
+ghost use Rattle.std.specs.Prelude.{◌≡◌, IfOk};
 
 use crate::held::HeldProperty;
 use crate::settings::Settings;
 use crate::text::Text;
-use gw_base::{CtxNum, Items, Service};
+use gw_base::{CtxNum, Items, NoMemory, Service};
 use gw_desc::Mode;
+use std::alloc::AllocError;
 
 /// A stream of a termination (RFC 3525, sections 7.1.6 and 7.1.7).
 pub struct Stream {
@@ -54,6 +55,20 @@ impl Drop for Termination {
             slot: _,
             settings: _,
         } = self;
+    }
+}
+
+// The copy shares what was set of it.
+impl Clone for Termination {
+    ghost is_clone = { λ a b. b ≡ a };
+
+    fn clone(&self) -> Result<Self, AllocError> {
+        Ok(Termination {
+            place: self.place,
+            service: self.service,
+            slot: self.slot,
+            settings: self.settings.copied()?,
+        })
     }
 }
 
@@ -119,5 +134,16 @@ impl Termination {
         ensures { self.new ≡ reset self.old }
     {
         *self = Termination::unset(None, self.service, self.slot);
+    }
+
+    /// A copy, equal to it. It takes a count.
+    ///
+    /// # Errors
+    ///
+    /// Out of memory.
+    pub fn copy(&self) -> Result<Termination, NoMemory>
+        ensures { IfOk result (λ copy. copy ≡ self.now) }
+    {
+        Ok(self.clone()?)
     }
 }

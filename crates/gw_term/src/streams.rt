@@ -1,9 +1,9 @@
 //! Streams: what becomes of each by what is sent to it.
 
-ghost use Rattle.std.specs.Prelude.{◌≡◌, ◌≤◌, IfOk, Some, false};
+ghost use Rattle.std.specs.Prelude.{◌≡◌, ◌≤◌, IfOk, false};
 ghost use Rattle.std.specs.Option.{option_copied, option_map, unwrap_or};
 ghost use Rattle.gw_term.specs.Gathered.{applied, filled_after, local_after, nothing_sent, remote_after, with_merging, with_stream_of, with_streams_of};
-ghost use Rattle.gw_term.specs.Merge.{local_text, is_filled, begun};
+ghost use Rattle.gw_term.specs.Merge.{begun};
 ghost use Rattle.gw_term.specs.Applies.{Becomes, Yields};
 ghost use Rattle.gw_term.specs.Places.{numbers_read};
 
@@ -39,30 +39,7 @@ pub(crate) struct Merging {
     pub filled: bool,
 }
 
-/// A Local that is sent, filled where the termination has a slot, and whether it was.
-#[inline(never)]
-fn filled_local(
-    alloc: Global,
-    target: &Target<'_>,
-    number: u8,
-    text: &[u8],
-) -> Result<(Text, bool), NoMemory>
-    requires first { 1 ≤ number }
-    requires last { number ≤ 4 }
-    ensures local { IfOk result (λ made. made.0 ≡ Some (local_text target.now.rules.now target.now.slot number text.now)) }
-    ensures filled { IfOk result (λ made. made.1 ≡ is_filled target.now.slot text.now) }
-{
-    let made = target.made_local(number);
-    match target.slot {
-        Some(slot) => {
-            let (local, filled) = fill_local(alloc, text, &target.rules.media, slot, number)?;
-            Ok((Text::from_vec(local)?.shared_with(alloc, made)?, filled))
-        }
-        None => Ok((Text::of_or(alloc, text, made)?, false)),
-    }
-}
-
-/// The Local after what is sent, and whether it was filled.
+/// The Local after what is sent, filled where the termination has a slot, and whether it was.
 fn local_after(
     alloc: Global,
     target: &Target<'_>,
@@ -75,9 +52,17 @@ fn local_after(
     ensures local { IfOk result (λ made. made.0 ≡ local_after target.now.rules.now target.now.slot number sent.now old.now) }
     ensures filled { IfOk result (λ made. made.1 ≡ filled_after target.now.slot sent.now false) }
 {
-    match sent {
-        Some(text) => filled_local(alloc, target, number, text.as_bytes()),
-        None => Ok((old.copied(alloc)?, false)),
+    let Some(text) = sent else {
+        return Ok((old.copied(alloc)?, false));
+    };
+    let text = text.as_bytes();
+    let made = target.made_local(number);
+    match target.slot {
+        Some(slot) => {
+            let (local, filled) = fill_local(alloc, text, &target.rules.media, slot, number)?;
+            Ok((Text::from_vec(local)?.shared_with(alloc, made)?, filled))
+        }
+        None => Ok((Text::of_or(alloc, text, made)?, false)),
     }
 }
 

@@ -1,5 +1,5 @@
 use Rattle.std.proofs.Common.{◌≡◌, take}
-use Rattle.gw_term.proofs.copies.copied_properties.Given as goal
+use Rattle.gw_term.proofs.properties.copied_properties.Given as goal
 
 -- those so far are copied
 abbrev pub invariant-loop-property : goal.invariant-loop-property
