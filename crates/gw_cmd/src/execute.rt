@@ -241,6 +241,7 @@ fn on_allowed(
 ///
 /// Out of memory. The draft is then spent: nothing is known of it but its keys.
 #[tactic(auto, unfolding(crate::specs::Commands::command))]
+#[inline(always)]
 pub fn command_written(
     alloc: Global,
     draft: &mut Draft,

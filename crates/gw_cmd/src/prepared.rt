@@ -61,6 +61,8 @@ impl<'a, 'b> Prepared<'a, 'b> {
 
     /// The command under the rules; `for_each` where it is one of an action with `*`. It takes no memory; the work is
     /// that of looking at its descriptors.
+    // Inlined, since it is large: it is made where it stands, and not moved there.
+    #[inline(always)]
     pub fn new(rules: &'a Rules, command: &'a Command<'b>, for_each: bool) -> Prepared<'a, 'b>
         ensures rules { result.rules.now ≡ rules.now }
         ensures command { result.command.now ≡ command.now }

@@ -92,6 +92,7 @@ impl Order {
 
     /// Where a key stands in the order, or where it would stand: one step where it comes behind all others, as the
     /// next number of a sender mostly does, and else as many more as the count of pairs has binary digits.
+    #[inline(always)]
     pub fn search(&self, ring: &Ring, mid: &Mid, id: u32) -> Result<usize, usize>
         ensures range { IsSearchInRange result (deque_len self.now.numbers) }
         ensures stand { (order : IsOrder (keys_in ring.now.items) self.now.first self.now.numbers.items) → IsStand (keys_in ring.now.items) order.places (key_by mid.now id) result }

@@ -111,6 +111,7 @@ impl Row {
     /// the oldest is handed back. It takes no memory. For k kept pairs it costs log k steps, or one where the key
     /// comes behind all others, and two moves of at most k bytes, or none where keys come in their order and leave in
     /// it. Where no place is free, the gaps are closed first.
+    #[inline(always)]
     pub fn push(&mut self, entry: Entry) -> Option<Entry>
         requires { bytes_for (key_of entry) (present self.old.row) ≡ None }
         ensures pairs { kept_in self.new ≡ with_pair (kept_in self.old) entry }

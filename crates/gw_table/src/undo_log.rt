@@ -23,6 +23,9 @@ fn are_many(writes: usize, rows: usize) -> bool {
     writes >= MANY && writes >= rows / 4
 }
 
+/// How much room is made at first: for what few transactions write.
+const ROOM_AT_FIRST: usize = 8;
+
 /// How much room is made at once, from the second time on: for the writes of a context that comes or goes with its
 /// members.
 const ROOM: usize = 64;
@@ -36,8 +39,14 @@ pub(crate) fn make_room(writes: &mut Vec<Write>) -> Result<(), NoMemory>
     ensures same { writes.new.items ≡ writes.old.items }
     ensures room { OnOk result (vec_len writes.new < vec_capacity writes.new) }
 {
-    let is_grown = !writes.is_empty() && writes.len() == writes.capacity();
-    writes.reserve(if is_grown { ROOM } else { 1 })?;
+    if writes.len() == writes.capacity() {
+        let more = if writes.is_empty() {
+            ROOM_AT_FIRST
+        } else {
+            ROOM
+        };
+        writes.reserve(more)?;
+    }
     Ok(())
 }
 

@@ -41,6 +41,7 @@ pub struct Merger<'a, 'b> {
 impl<'a, 'b> Merger<'a, 'b> {
     /// Nothing was merged yet. Where the descriptors are for one record, and not for several, nothing is kept. It
     /// takes no memory.
+    #[inline(always)]
     pub fn new(rules: &'a Rules, descriptors: &'a [Descriptor<'b>], several: bool) -> Merger<'a, 'b>
         ensures rules { result.rules.now ≡ rules.now }
         ensures descriptors { result.descriptors.now ≡ descriptors.now }

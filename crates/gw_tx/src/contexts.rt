@@ -29,6 +29,8 @@ use std::alloc::Global;
 
 /// Executes an action in a context that is there: sets its properties, writes what it then is, and executes the
 /// commands.
+// Not inlined, so that the other kinds of actions cost less; nor is `action_for_each`.
+#[inline(never)]
 pub(crate) fn in_context(
     alloc: Global,
     draft: &mut Draft,
@@ -110,6 +112,7 @@ fn in_all(
 
 /// Executes an action with `*`: in each context that exists when it begins, in rising number. The work is that of its
 /// properties and commands in each of them, and of the replies that there is room for.
+#[inline(never)]
 pub(crate) fn action_for_each(
     alloc: Global,
     draft: &mut Draft,
