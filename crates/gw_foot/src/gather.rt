@@ -25,6 +25,7 @@ const FEW: usize = 256;
 fn add_names(names: &[TermName], keys: &mut Vec<Key>) -> Result<(), NoMemory>
     ensures { OnOk result (keys.new.items ≡ keys.old.items ++ map Term names.now) }
 {
+    keys.reserve(names.len())?;
     for name in names {
         keys.push(Key::Term(*name))?;
     }
