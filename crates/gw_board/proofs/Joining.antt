@@ -1,9 +1,9 @@
 -- Places that join those that are free, and what is not in a wave.
 use Rattle.std.proofs.Common.{nat_eq, ◌≡◌, ℕ, zero, suc, ◌+◌, ◌<◌, ◌≤◌, Bool, true, false, List, [], ◌∷◌, ◌++◌, length, slice_index_or, take, Option, None, Some, inl, inr, ◌⊎◌, refl, sym, ap, subst, ◌∙◌, arith, eqb-true, eq-eqb}
-use Rattle.std.specs.Prelude.{◌||◌, slice_get, slice_set, IfSome, Vec}
+use Rattle.std.specs.Prelude.{◌||◌, slice_get, slice_set, IfSome}
 use Rattle.std.specs.List.{All, list_any}
+use Rattle.std.specs.BinaryHeap.{heap_items}
 use Rattle.std.specs.List.Sorted.{IsPermutation}
-use Rattle.std.specs.declared.alloc.Global.{Global}
 use Rattle.std.proofs.lemmas.List.Elements.{All-head, All-tail, All-weaker}
 use Rattle.std.proofs.lemmas.List.Folds.{list_any-append}
 use Rattle.std.proofs.lemmas.List.Sorted.{list_any-IsPermutation}
@@ -11,12 +11,13 @@ use Rattle.gw_base.proofs.Booleans.{refuted, neither}
 use Rattle.gw_base.proofs.NamesInLists.{or_left, or_right, or_cases, either}
 use Rattle.gw_table.specs.Maps.{Maps}
 use Rattle.gw_board.specs.Boards.{requested_in, is_pending_at}
-use Rattle.gw_board.specs.Candidates.{is_in, any_pending, places_in, IsListed, AreListed, IsFreeUnless, IsFreeAt, AreFree, AreFreeBut}
+use Rattle.gw_board.specs.Candidates.{is_in, any_pending, places_in, IsListed, AreListed, IsFreeUnless, IsFreeAt, AreFree, AreFreeBut, AreCandidates, AreCandidatesBut}
 use Rattle.gw_board.specs.Carried.{BurstRequest}
 use Rattle.gw_board.specs.Core.{Place}
 use Rattle.gw_board.specs.Links.{IsLink, AreLinked}
 use Rattle.gw_board.specs.Named.{IsNoneOfWave}
 use Rattle.gw_board.specs.Waves.{is_pending}
+use Rattle.gw_board.specs.declared.candidates.Candidates.{Candidates}
 use Rattle.gw_board.proofs.FirstOfWave.{not_free}
 use Rattle.gw_board.proofs.LeftOut.{below}
 use Rattle.gw_board.proofs.Linking.{on_some, link_behind}
@@ -50,19 +51,19 @@ in_last p xs = list_any-append (nat_eq p) xs (p ∷ []) ∙ or_right (is_in p xs
 
 -- ---- lists of later places
 
-pub listed_set : (later : List (Vec ℕ Global)) (e i : ℕ) (v : Vec ℕ Global) → e < length later → is_in i v.items ≡ true → IsListed (slice_set later e v) i e
+pub listed_set : (later : List (List ℕ)) (e i : ℕ) (v : List ℕ) → e < length later → is_in i v ≡ true → IsListed (slice_set later e v) i e
 listed_set [] e i v l h = absurd (omega arith)
 listed_set (x ∷ xs) zero i v l h = h
 listed_set (x ∷ xs) (suc e) i v l h = listed_set xs e i v (omega arith) h
 
-pub listed_stays : (later : List (Vec ℕ Global)) (e i l : ℕ) (v : Vec ℕ Global) → (is_in i (places_in (slice_get later e)) ≡ true → is_in i v.items ≡ true) → IsListed later i l → IsListed (slice_set later e v) i l
+pub listed_stays : (later : List (List ℕ)) (e i l : ℕ) (v : List ℕ) → (is_in i (places_in (slice_get later e)) ≡ true → is_in i v ≡ true) → IsListed later i l → IsListed (slice_set later e v) i l
 listed_stays [] e i l v f h = absurd cc
 listed_stays (x ∷ xs) zero i zero v f h = f h
 listed_stays (x ∷ xs) zero i (suc l) v f h = h
 listed_stays (x ∷ xs) (suc e) i zero v f h = h
 listed_stays (x ∷ xs) (suc e) i (suc l) v f h = listed_stays xs e i l v f h
 
-pub listed_more : (links : List (List ℕ)) (place : ℕ) (own : List ℕ) (old new : List (Vec ℕ Global)) → place < length links → own ≡ slice_index_or links place own
+pub listed_more : (links : List (List ℕ)) (place : ℕ) (own : List ℕ) (old new : List (List ℕ)) → place < length links → own ≡ slice_index_or links place own
     → ((i : ℕ) → i < place → IfSome (slice_get links i) (All (IsListed old i))) → All (IsListed new place) own → ((i l : ℕ) → IsListed old i l → IsListed new i l)
     → (i : ℕ) → i < place + 1 → IfSome (slice_get links i) (All (IsListed new i))
 listed_more links place own old new inside is so_far all stay i low = by (nat_eq i place) refl
@@ -154,7 +155,7 @@ is_it_or_pends places p l new h = by (nat_eq p l) refl
     by true e = or_left (nat_eq p l) (is_pending_at (slice_get (slice_set places p new) l)) e
     by false e = or_right (nat_eq p l) (is_pending_at (slice_get (slice_set places p new) l)) (pends_other places p l new (λ s. let clash : true ≡ false = sym (eq-eqb p l s) ∙ e in cc) h)
 
-pub free_but : (places : List Place) (p : ℕ) (new : Place) (links : List (List ℕ)) (free : List ℕ) → is_pending new.standing ≡ false → AreFree places links free → AreFreeBut p (slice_set places p new) links free
+free_but : (places : List Place) (p : ℕ) (new : Place) (links : List (List ℕ)) (free : List ℕ) → is_pending new.standing ≡ false → AreFree places links free → AreFreeBut p (slice_set places p new) links free
 free_but places p new links free n h i pends =
     on_some (λ ls. any_pending places ls ≡ false → is_in i free ≡ true) (λ ls. list_any (λ l. nat_eq p l || is_pending_at (slice_get (slice_set places p new) l)) ls ≡ false → is_in i free ≡ true) (slice_get links i)
     (λ ls f none. f (any_false (λ l. nat_eq p l || is_pending_at (slice_get (slice_set places p new) l)) (λ l. is_pending_at (slice_get places l)) (λ l. is_it_or_pends places p l new) ls none))
@@ -169,22 +170,40 @@ pends_yet (q ∷ qs) zero (suc l) old new e n h = h
 pends_yet (q ∷ qs) (suc p) zero old new e n h = h
 pends_yet (q ∷ qs) (suc p) (suc l) old new e n h = pends_yet qs p l old new e n h
 
-pub free_yet : (places : List Place) (p : ℕ) (old new : Place) (links : List (List ℕ)) (free : List ℕ) → slice_get places p ≡ Some old → is_pending old.standing ≡ false → is_pending new.standing ≡ false → AreFree places links free → AreFree (slice_set places p new) links free
+free_yet : (places : List Place) (p : ℕ) (old new : Place) (links : List (List ℕ)) (free : List ℕ) → slice_get places p ≡ Some old → is_pending old.standing ≡ false → is_pending new.standing ≡ false → AreFree places links free → AreFree (slice_set places p new) links free
 free_yet places p old new links free e was n h i pends =
     on_some (λ ls. any_pending places ls ≡ false → is_in i free ≡ true) (λ ls. any_pending (slice_set places p new) ls ≡ false → is_in i free ≡ true) (slice_get links i)
     (λ ls f none. f (any_false (λ l. is_pending_at (slice_get (slice_set places p new) l)) (λ l. is_pending_at (slice_get places l)) (λ l. pends_yet places p l old new e was) ls none))
     (h i (pends_still places p i new n pends))
 
+-- ---- the links stay
+
+pub candidates_but : (old new : List Place) (p : ℕ) (x : Place) (c : Candidates) → new ≡ slice_set old p x → requested_in new ≡ requested_in old → is_pending x.standing ≡ false → AreCandidates old c → AreCandidatesBut p new c
+candidates_but old new p x c e same n h = record {
+  linked = subst (λ (l : List BurstRequest). AreLinked l c.links.items) (sym same) h.linked;
+  listed = h.listed;
+  free = subst (λ (l : List Place). AreFreeBut p l c.links.items (heap_items c.free)) (sym e) (free_but old p x c.links.items (heap_items c.free) n h.free);
+  ordered = h.ordered;
+}
+
+pub candidates_yet : (old new : List Place) (p : ℕ) (was x : Place) (c : Candidates) → new ≡ slice_set old p x → requested_in new ≡ requested_in old → slice_get old p ≡ Some was → is_pending was.standing ≡ false → is_pending x.standing ≡ false → AreCandidates old c → AreCandidates new c
+candidates_yet old new p was x c e same there off n h = record {
+  linked = subst (λ (l : List BurstRequest). AreLinked l c.links.items) (sym same) h.linked;
+  listed = h.listed;
+  free = subst (λ (l : List Place). AreFree l c.links.items (heap_items c.free)) (sym e) (free_yet old p was x c.links.items (heap_items c.free) there off n h.free);
+  ordered = h.ordered;
+}
+
 -- ---- those that were linked to it have joined
 
-listed_at : (later : List (Vec ℕ Global)) (i p : ℕ) (ls : List ℕ) → All (IsListed later i) ls → is_in p ls ≡ true → IsListed later i p
+listed_at : (later : List (List ℕ)) (i p : ℕ) (ls : List ℕ) → All (IsListed later i) ls → is_in p ls ≡ true → IsListed later i p
 listed_at later i p [] all e = absurd cc
 listed_at later i p (l ∷ ls) all e =
     either (or_cases (nat_eq p l) (is_in p ls) e)
     (λ h. subst (IsListed later i) (sym (eqb-true p l h)) (All-head (IsListed later i) l ls all))
     (λ h. listed_at later i p ls (All-tail (IsListed later i) l ls all) h)
 
-pub released : (places : List Place) (p : ℕ) (links : List (List ℕ)) (later : List (Vec ℕ Global)) (old new : List ℕ) → AreListed links later → AreFreeBut p places links old
+pub released : (places : List Place) (p : ℕ) (links : List (List ℕ)) (later : List (List ℕ)) (old new : List ℕ) → AreListed links later → AreFreeBut p places links old
     → ((i : ℕ) → is_in i old ≡ true → is_in i new ≡ true) → ((i : ℕ) → is_in i (places_in (slice_get later p)) ≡ true → IsFreeAt places links new i) → AreFree places links new
 released places p links later old new listed but stay joined i pends = by (slice_get links i) (listed i) (but i pends) (joined i)
   where

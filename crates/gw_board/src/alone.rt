@@ -258,9 +258,8 @@ impl Board<'_, '_, '_> {
         self.tables = left.tables;
         set_stage(&mut self.board_entries, place, Stage::Closed(left.text));
         self.candidates.release(&self.board_entries, place);
-        let Ok(()) = self.undo_log.push(UndoStep::of_writes(left.undo_log)) else {
-            unreachable!()
-        };
+        self.undo_log
+            .push_reserved(UndoStep::of_writes(left.undo_log));
         Ok(())
     }
 
@@ -301,9 +300,7 @@ impl Board<'_, '_, '_> {
         };
         let (tables, found) = draft.into_tables();
         self.tables = tables;
-        let Ok(()) = self.undo_log.push(UndoStep::of_writes(found)) else {
-            unreachable!()
-        };
+        self.undo_log.push_reserved(UndoStep::of_writes(found));
         Ok(())
     }
 }

@@ -4,16 +4,15 @@ ghost use Rattle.std.specs.Prelude.{◌≡◌, ◌≤◌, ◌<◌, ◌||◌, tru
 ghost use Rattle.std.specs.Ordering.{nat_cmp};
 ghost use Rattle.std.specs.BinaryHeap.{heap_items, heap_len, IsHeap};
 ghost use Rattle.gw_table.specs.Maps.{Maps};
-ghost use Rattle.gw_board.specs.Boards.{requested_in, is_pending_at};
+ghost use Rattle.gw_board.specs.Boards.{is_pending_at};
 ghost use Rattle.gw_board.specs.BoardEntries.{place_of};
-ghost use Rattle.gw_board.specs.Candidates.{any_pending, AreCandidates, AreFree, AreFreeBut, AreListed, IsListed, IsFreeAt, is_in, places_in};
+ghost use Rattle.gw_board.specs.Candidates.{any_pending, AreCandidates, AreCandidatesBut, AreFree, AreListed, IsListed, IsFreeAt, is_in, places_in};
 ghost use Rattle.gw_board.specs.Core.{Place};
-ghost use Rattle.gw_board.specs.Links.{AreLinked};
 ghost use Rattle.gw_board.specs.Named.{IsNoneOfWave};
 
 use crate::board_entry::{BoardEntry, is_pending_at};
 use crate::links::{Links, links_of};
-use gw_base::NoMemory;
+use gw_base::{NoMemory, Short};
 use std::alloc::Global;
 use std::collections::BinaryHeap;
 
@@ -23,18 +22,18 @@ use std::collections::BinaryHeap;
 pub(crate) struct Candidates {
     links: Vec<Links>,
     /// For each place the later ones that are linked to it.
-    later: Vec<Vec<usize>>,
+    later: Vec<Short<usize, 2>>,
     /// The places that wait for no other by name, with some that are not pending any more.
     free: BinaryHeap<usize>,
 }
 
 /// No place has later ones.
-fn none_later(alloc: Global, places: usize) -> Result<Vec<Vec<usize>>, NoMemory>
+fn none_later(alloc: Global, places: usize) -> Result<Vec<Short<usize, 2>>, NoMemory>
     ensures { IfOk result (λ later. length later.items ≡ places) }
 {
     let mut later = Vec::with_capacity(alloc, places)?;
     for count in 0..places {
-        later.push(Vec::new(alloc))?;
+        later.push(Short::new(alloc))?;
     }
     Ok(later)
 }
@@ -50,14 +49,14 @@ fn ends_in(places: &[usize], place: usize) -> bool
 }
 
 /// A later place goes last in the list of a place, once.
-fn add_later(later: &mut Vec<Vec<usize>>, earlier: usize, place: usize) -> Result<(), NoMemory>
+fn add_later(later: &mut Vec<Short<usize, 2>>, earlier: usize, place: usize) -> Result<(), NoMemory>
     requires { earlier < length later.old.items }
     ensures listed { OnOk result (IsListed later.new.items place earlier) }
     ensures stay { OnOk result ((i l : ℕ) → IsListed later.old.items i l → IsListed later.new.items i l) }
     ensures len { length later.new.items ≡ length later.old.items }
 {
     let places = &mut later[earlier];
-    if ends_in(places, place) {
+    if ends_in(places.as_slice(), place) {
         return Ok(());
     }
     places.push(place)?;
@@ -65,7 +64,7 @@ fn add_later(later: &mut Vec<Vec<usize>>, earlier: usize, place: usize) -> Resul
 }
 
 /// A place goes to the lists of all that it is linked to.
-fn add_links(later: &mut Vec<Vec<usize>>, links: &Links, place: usize) -> Result<(), NoMemory>
+fn add_links(later: &mut Vec<Short<usize, 2>>, links: &Links, place: usize) -> Result<(), NoMemory>
     requires { All (λ l. l < length later.old.items) links.now }
     ensures listed { OnOk result (All (IsListed later.new.items place) links.now) }
     ensures stay { OnOk result ((i l : ℕ) → IsListed later.old.items i l → IsListed later.new.items i l) }
@@ -78,7 +77,7 @@ fn add_links(later: &mut Vec<Vec<usize>>, links: &Links, place: usize) -> Result
 }
 
 /// For each place the later ones that are linked to it. A link takes one step.
-fn later_of(alloc: Global, links: &[Links]) -> Result<Vec<Vec<usize>>, NoMemory>
+fn later_of(alloc: Global, links: &[Links]) -> Result<Vec<Short<usize, 2>>, NoMemory>
     requires { (i : ℕ) → IfSome (slice_get links.now i) (All (λ l. l < i)) }
     ensures { IfOk result (λ later. AreListed links.now later.items) }
 {
@@ -146,11 +145,11 @@ fn join_each(
 }
 
 /// The later places that are linked to a place.
-fn later_at(later: &[Vec<usize>], place: usize) -> &[usize]
+fn later_at(later: &[Short<usize, 2>], place: usize) -> &[usize]
     ensures { result.now ≡ places_in (slice_get later.now place) }
 {
     match later.get(place) {
-        Some(places) => places,
+        Some(places) => places.as_slice(),
         None => &[],
     }
 }
@@ -200,10 +199,7 @@ impl Candidates {
 
     /// A place is not pending any more: those that waited for it alone join.
     pub(crate) fn release(&mut self, board_entries: &[BoardEntry<'_, '_, '_>], place: usize)
-        requires linked { AreLinked (requested_in (map place_of board_entries.now)) self.old.links.items }
-        requires listed { AreListed self.old.links.items self.old.later.items }
-        requires ordered { IsHeap nat_cmp (heap_items self.old.free) }
-        requires free { AreFreeBut place (map place_of board_entries.now) self.old.links.items (heap_items self.old.free) }
+        requires { AreCandidatesBut place (map place_of board_entries.now) self.old }
         ensures { AreCandidates (map place_of board_entries.now) self.new }
     {
         let later = later_at(&self.later, place);

@@ -52,9 +52,7 @@ impl<'b, 'h, 'a> Board<'b, 'h, 'a> {
         } = job;
         self.tables.put_back(part);
         set_stage(&mut self.board_entries, place, Stage::Closed(reply));
-        let Ok(()) = self.undo_log.push(UndoStep::of_job(undo_step)) else {
-            unreachable!()
-        };
+        self.undo_log.push_reserved(UndoStep::of_job(undo_step));
     }
 
     /// The job's entries go back as they were, and its place is pending again.
@@ -140,9 +138,7 @@ impl<'b, 'h, 'a> Board<'b, 'h, 'a> {
             let Stage::Closed(reply) = stage else {
                 unreachable!()
             };
-            let Ok(()) = replies.push(reply) else {
-                unreachable!()
-            };
+            replies.push_reserved(reply);
         }
         sweep_journal(&mut tables, &undo_log, sweeps_all);
         (tables, replies)

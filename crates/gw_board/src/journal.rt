@@ -24,9 +24,7 @@ pub(crate) fn last_alone(alloc: Global, undo_log: &mut Vec<UndoStep>) -> UndoLog
     match last.into_writes() {
         Ok(writes) => writes,
         Err(last) => {
-            let Ok(()) = undo_log.push(last) else {
-                unreachable!()
-            };
+            undo_log.push_reserved(last);
             UndoLog::new(alloc)
         }
     }

@@ -11,7 +11,7 @@ ghost use Rattle.gw_board.specs.BoardEntries.{place_of};
 
 use crate::board_entry::{BoardEntry, is_pending_at};
 use crate::named::names_of;
-use gw_base::{Key, NoMemory, TermName};
+use gw_base::{Key, NoMemory, Short, TermName};
 use indexmap::IndexMap;
 use std::alloc::Global;
 use std::cell::Cell;
@@ -63,7 +63,7 @@ impl LastNamed {
 /// no more than where to begin.
 #[derive(Drop)]
 pub(crate) struct Links {
-    places: Vec<usize>,
+    places: Short<usize, 2>,
     watched: Cell<usize>,
 }
 
@@ -72,7 +72,7 @@ impl Model for Links {
 
     ghost Value = { List ℕ };
 
-    ghost view = { λ a. a.places.items };
+    ghost view = { λ a. a.places };
 }
 
 impl Links {
@@ -80,7 +80,7 @@ impl Links {
     pub(crate) fn places(&self) -> &[usize]
         ensures { result.now ≡ self.now }
     {
-        &self.places
+        self.places.as_slice()
     }
 
     /// Whether one of the places is pending. Of the places that name a thing it is enough to look at the last before
@@ -88,20 +88,21 @@ impl Links {
     pub(crate) fn wait(&self, board_entries: &[BoardEntry<'_, '_, '_>]) -> bool
         ensures { result ≡ true → any_pending (map place_of board_entries.now) self.now ≡ true }
     {
-        for next in self.watched.get()..self.places.len() {
-            if is_pending_at(board_entries, self.places[next]) {
+        let places = self.places();
+        for next in self.watched.get()..places.len() {
+            if is_pending_at(board_entries, places[next]) {
                 self.watched.set(next);
                 return true;
             }
         }
-        self.watched.set(self.places.len());
+        self.watched.set(places.len());
         false
     }
 }
 
 /// A link goes last, if there is one.
-fn add_link(places: &mut Vec<usize>, earlier: Option<usize>) -> Result<(), NoMemory>
-    ensures { OnOk result (places.new.items ≡ places.old.items ++ option_to_list earlier) }
+fn add_link(places: &mut Short<usize, 2>, earlier: Option<usize>) -> Result<(), NoMemory>
+    ensures { OnOk result (places.new ≡ places.old ++ option_to_list earlier) }
 {
     if let Some(earlier) = earlier {
         places.push(earlier)?;
@@ -109,21 +110,22 @@ fn add_link(places: &mut Vec<usize>, earlier: Option<usize>) -> Result<(), NoMem
     Ok(())
 }
 
-/// The links of a place, where it is known what those before it name.
+/// The links of a place, where it is known what those before it name. What it names is listed on the way.
 fn links_at(
     alloc: Global,
     board_entries: &[BoardEntry<'_, '_, '_>],
     place: usize,
     last: &mut LastNamed,
+    names: &mut Vec<Key>,
 ) -> Result<Links, NoMemory>
     requires inside { place < length board_entries.now }
     requires last { AreLastNamed (requested_in (map place_of board_entries.now)) place last.old }
     ensures links { IfOk result (All (IsLink (requested_in (map place_of board_entries.now)) place)) }
     ensures last { OnOk result (AreLastNamed (requested_in (map place_of board_entries.now)) (place + 1) last.new) }
 {
-    let names = names_of(alloc, board_entries[place].task.get())?;
-    let mut places = Vec::new(alloc);
-    for name in &names {
+    names_of(alloc, board_entries[place].task.get(), names)?;
+    let mut places = Short::new(alloc);
+    for name in names.as_slice() {
         let earlier = last.add(name, place)?;
         add_link(&mut places, earlier)?;
     }
@@ -141,9 +143,11 @@ pub(crate) fn links_of(
     ensures { IfOk result (λ links. AreLinked (requested_in (map place_of board_entries.now)) links.items) }
 {
     let mut last = LastNamed::new(alloc);
+    let mut names = Vec::new(alloc);
     let mut links = Vec::with_capacity(alloc, board_entries.len())?;
     for place in 0..board_entries.len() {
-        links.push(links_at(alloc, board_entries, place, &mut last)?)?;
+        let own = links_at(alloc, board_entries, place, &mut last, &mut names)?;
+        links.push(own)?;
     }
     Ok(links)
 }

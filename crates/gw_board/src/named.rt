@@ -1,6 +1,6 @@
 //! What a request names by itself, or owns, whatever the tables are.
 
-ghost use Rattle.std.specs.Prelude.{◌≡◌, ◌||◌, IfOk, OnOk};
+ghost use Rattle.std.specs.Prelude.{◌≡◌, ◌||◌, OnOk};
 ghost use Rattle.gw_base.specs.declared.key.Key.{Key as AKey};
 ghost use Rattle.gw_base.specs.Keys.{has};
 ghost use Rattle.gw_tx.specs.Footprints.{one_context};
@@ -48,14 +48,15 @@ fn add_action(action: &Action<'_>, own: Option<CtxNum>, keys: &mut Vec<Key>) -> 
     add_terms(action.commands.as_slice(), keys)
 }
 
-/// What a request names by itself, and what it owns.
+/// Lists what a request names by itself, and what it owns, in place of what was listed.
 pub(crate) fn names_of(
     alloc: Global,
     requested: &BurstRequest<'_, '_>,
-) -> Result<Vec<Key>, NoMemory>
-    ensures { IfOk result (λ names. AreNamed requested.now names.items) }
+    names: &mut Vec<Key>,
+) -> Result<(), NoMemory>
+    ensures { OnOk result (AreNamed requested.now names.new.items) }
 {
-    let mut names = Vec::new(alloc);
+    names.clear();
     let mut left = requested.owned.contexts.as_slice();
     let scratch = Bump::new(alloc);
     let tree = requested.request.tree(&scratch)?;
@@ -63,7 +64,7 @@ pub(crate) fn names_of(
     for action in actions {
         let (own, later) = next_entry(left);
         left = later;
-        add_action(action, own, &mut names)?;
+        add_action(action, own, names)?;
     }
-    Ok(names)
+    Ok(())
 }

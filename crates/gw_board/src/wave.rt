@@ -109,9 +109,7 @@ impl<'b, 'h, 'a> Board<'b, 'h, 'a> {
                 self.close_unchanged(jobs);
                 return Err(NoMemory);
             };
-            let Ok(()) = jobs.push(job) else {
-                unreachable!()
-            };
+            jobs.push_reserved(job);
         }
         Ok(jobs)
     }

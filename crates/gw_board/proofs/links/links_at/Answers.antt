@@ -25,11 +25,11 @@ loop-name-preserved c =
     let named : does_name b key ≡ true =
     ap (λ (s : BoardEntry). does_name s.task key) c.index-board_entries-place.is
     ∙ ap (λ (a : BurstRequest). does_name a key) (sym c.get.ensures)
-    ∙ sym (c.in_ok-names.ensures key)
-    ∙ ap (λ (l : List Key). has l key) (sym c.deref-name-items.ensures.value)
-    ∙ has_at c.deref-name-items.result.now c.loop-name.name-index key c.loop-name-test.true c.name-item.is in
+    ∙ sym (c.in_ok-names_of.ensures key)
+    ∙ ap (λ (l : List Key). has l key) (sym c.as_slice-name-items.ensures.value)
+    ∙ has_at c.as_slice-name-items.result.now c.loop-name.name-index key c.loop-name-test.true c.name-item.is in
     record {
       links = subst (All (IsLink requested i)) (sym c.in_ok-add_link.ensures)
-          (links_more requested i b key c.loop-name.last c.loop-name.places.items c.in_ok-earlier.earlier here named c.loop-name.invariant.last c.in_ok-earlier.ensures.earlier c.loop-name.invariant.links);
+          (links_more requested i b key c.loop-name.last c.loop-name.places c.in_ok-earlier.earlier here named c.loop-name.invariant.last c.in_ok-earlier.ensures.earlier c.loop-name.invariant.links);
       last = named_more requested i b key c.loop-name.last c.add.new.self here named c.loop-name.invariant.last c.in_ok-earlier.ensures.keys;
     }

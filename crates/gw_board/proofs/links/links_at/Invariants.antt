@@ -8,6 +8,6 @@ use Rattle.gw_board.proofs.links.links_at.Given as goal
 -- the places so far are links, and what is found are places up to this one
 abbrev pub invariant-loop-name : goal.invariant-loop-name
 invariant-loop-name l = record {
-  links : All (IsLink (requested_in (map place_of l.board_entries)) l.place) l.places.items;
+  links : All (IsLink (requested_in (map place_of l.board_entries)) l.place) l.places;
   last : AreLastNamed (requested_in (map place_of l.board_entries)) (l.place + 1) l.last;
 }

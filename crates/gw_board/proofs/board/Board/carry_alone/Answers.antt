@@ -8,11 +8,9 @@ use Rattle.gw_table.specs.UndoLog.{keys_written, undone as taken}
 use Rattle.gw_table.specs.Stored.{Stored, maps_of, AreReady, NoneIsOut}
 use Rattle.gw_table.specs.WellFormed.{AreWellFormed}
 use Rattle.gw_board.specs.Alone.{WasCarried, AreAsBegun}
-use Rattle.std.specs.BinaryHeap.{heap_items}
-use Rattle.gw_board.specs.Candidates.{AreCandidates, AreFreeBut}
-use Rattle.gw_board.specs.Links.{AreLinked}
+use Rattle.gw_board.specs.Candidates.{AreCandidates, AreCandidatesBut}
 use Rattle.gw_board.specs.declared.board_entry.BoardEntry.{BoardEntry}
-use Rattle.gw_board.proofs.Joining.{free_but}
+use Rattle.gw_board.proofs.Joining.{candidates_but}
 use Rattle.gw_board.specs.BoardView.{value_of, IsOnTheWay, IsKeptIn, NoneIsSpare}
 use Rattle.gw_board.specs.Boards.{Seen, requested_in, begun_board, core_of, AllClosed, unclosed}
 use Rattle.gw_board.specs.Carried.{BurstRequest, done}
@@ -27,7 +25,7 @@ use Rattle.gw_board.proofs.OnTheWay.{requested-pending, begun_way, gives_the_fol
 use Rattle.gw_board.proofs.BoardEntryFacts.{seat_inside, unclosed-pending, length-places, length-requested}
 use Rattle.gw_board.proofs.Spare.{swept_spare, alone_spare}
 use Rattle.gw_board.proofs.board.Board.carry_alone.Goals as goal
-use Rattle.gw_board.proofs.board.Board.carry_alone.Goals.{In-Ok-push, After-all_pending}
+use Rattle.gw_board.proofs.board.Board.carry_alone.Goals.{After-push_reserved, After-all_pending}
 
 -- what the caller knows of the board holds of it as its fields are
 none_here : (b now : Seen) → b ≡ now → NothingIsOpen (core_of now) → NothingIsOpen (core_of b)
@@ -149,36 +147,25 @@ set_stage-requires c =
     seat_inside c.self.inside.board_entries.items c.args.place (pending c.in-Some.task)
     (pends_here (value_of c.self.inside) c.args.self.now c.args.place c.in-Some.task c.self.view_is c.in-Some.ensures)
 
-pub unreachable-requires-in_default-push : goal.unreachable-requires-in_default-push
-unreachable-requires-in_default-push c =
+pub push_reserved-requires : goal.push_reserved-requires
+push_reserved-requires c =
     let b : Seen = value_of c.self.inside in
     let fewer = alone_fewer b c.self.invariant.on_the_way (none_here b c.args.self.now c.self.view_is c.requires.«open») c.args.place c.in-Some.task
     (pends_here b c.args.self.now c.args.place c.in-Some.task c.self.view_is c.in-Some.ensures) in
     let room = c.self.invariant.room.undo_log in
     let taken = c.last_alone-earlier.ensures.len in
     let space = c.last_alone-earlier.ensures.capacity in
-    let full = c.in_default-push.ensures.full in
     omega arith
 
-pub release-requires-clause-linked : goal.release-requires-clause-linked
-release-requires-clause-linked c =
-    subst (λ (l : List BurstRequest). AreLinked l c.self.inside.candidates.links.items)
-    (sym (ap (λ (l : List BoardEntry). requested_in (map place_of l)) c.deref.ensures.value ∙ c.set_stage.ensures.requested)) c.self.invariant.candidates.linked
+pub release-requires : goal.release-requires
+release-requires c =
+    let b : Seen = value_of c.self.inside in
+    subst (λ (l : List BoardEntry). AreCandidatesBut c.args.place (map place_of l) c.self.inside.candidates) (sym c.deref.ensures.value)
+    (candidates_but b.places (map place_of c.set_stage.new.board_entries.items) c.args.place _ c.self.inside.candidates
+    (c.set_stage.ensures.places (pending c.in-Some.task) (pends_here b c.args.self.now c.args.place c.in-Some.task c.self.view_is c.in-Some.ensures))
+    c.set_stage.ensures.requested refl c.self.invariant.candidates)
 
-pub release-requires-clause-listed : goal.release-requires-clause-listed
-release-requires-clause-listed c = c.self.invariant.candidates.listed
-
-pub release-requires-clause-ordered : goal.release-requires-clause-ordered
-release-requires-clause-ordered c = c.self.invariant.candidates.ordered
-
-pub release-requires-clause-free : goal.release-requires-clause-free
-release-requires-clause-free c =
-    let pends : slice_get (value_of c.self.inside).places c.args.place ≡ Some (pending c.in-Some.task) = pends_here (value_of c.self.inside) c.args.self.now c.args.place c.in-Some.task c.self.view_is c.in-Some.ensures in
-    subst (λ (l : List Place). AreFreeBut c.args.place l c.self.inside.candidates.links.items (heap_items c.self.inside.candidates.free))
-    (sym (ap (λ (l : List BoardEntry). map place_of l) c.deref.ensures.value ∙ c.set_stage.ensures.places (pending c.in-Some.task) pends))
-    (free_but (value_of c.self.inside).places c.args.place _ c.self.inside.candidates.links.items (heap_items c.self.inside.candidates.free) refl c.self.invariant.candidates.free)
-
-module _ (c : In-Ok-push) where
+module _ (c : After-push_reserved) where
   abbrev b : Seen
   b = value_of c.self.inside
 
@@ -223,11 +210,11 @@ module _ (c : In-Ok-push) where
   places_are : map place_of c.set_stage.new.board_entries.items ≡ (with_alone b i a front last).places
   places_are = c.set_stage.ensures.places (pending a) pends ∙ (λ j. slice_set b.places i (record { requested = a; standing = Closed (was.reply j) }))
 
-  originals_are : c.push.new.self.items ≡ (with_alone b i a front last).undo_log
-  originals_are = c.in-Ok-push.ensures.items ∙ ap (λ (o : UndoStep). front ++ o ∷ []) c.of_writes.ensures
+  originals_are : c.push_reserved.new.self.items ≡ (with_alone b i a front last).undo_log
+  originals_are = c.push_reserved.ensures.items ∙ ap (λ (o : UndoStep). front ++ o ∷ []) c.of_writes.ensures
 
   abbrev new : Seen
-  new = record { profile = b.profile; start = b.start; maps = maps_of tables; places = map place_of c.set_stage.new.board_entries.items; undo_log = c.push.new.self.items }
+  new = record { profile = b.profile; start = b.start; maps = maps_of tables; places = map place_of c.set_stage.new.board_entries.items; undo_log = c.push_reserved.new.self.items }
 
   is_new : new ≡ with_alone b i a front last
   is_new = λ j. record { profile = b.profile; start = b.start; maps = was.maps j; places = places_are j; undo_log = originals_are j }
@@ -250,7 +237,7 @@ module _ (c : In-Ok-push) where
       (alone_kept b way none i a pends front last c.self.inside.tables tables
       (took_ready b.undo_log front (undo_step_of_writes earlier) c.last_alone-earlier.ensures.last c.self.inside.tables c.self.invariant.kept.ready).0 was.here was.kept was.ready)
 
-  new_spare : (earlier ≡ []) × (c.self.inside.sweeps_all ≡ false) → NoneIsSpare b.start tables c.push.new.self.items (map place_of c.set_stage.new.board_entries.items)
+  new_spare : (earlier ≡ []) × (c.self.inside.sweeps_all ≡ false) → NoneIsSpare b.start tables c.push_reserved.new.self.items (map place_of c.set_stage.new.board_entries.items)
   new_spare h =
       subst (λ (l : List UndoStep). NoneIsSpare b.start tables l (map place_of c.set_stage.new.board_entries.items)) (sym originals_are)
       (alone_spare b none front earlier undo_log c.self.inside.tables tables c.last_alone-earlier.ensures.last h.0 (was.alone h.0) (was.back ∙ ap (λ (e : List Write). taken e b.maps) h.0) (c.self.invariant.spare h.1) (map place_of c.set_stage.new.board_entries.items))
@@ -267,8 +254,8 @@ invariant_of-self-2 c =
     let taken = c.last_alone-earlier.ensures.len in
     let given = c.last_alone-earlier.ensures.capacity in
     let len = c.set_stage.ensures.len in
-    let more = c.in-Ok-push.ensures.len in
-    let space = c.in-Ok-push.ensures.capacity in
+    let more = c.push_reserved.ensures.len in
+    let space = c.push_reserved.ensures.capacity in
     record {
       on_the_way = new_way c;
       kept = new_kept c;

@@ -28,7 +28,7 @@ use Rattle.gw_board.proofs.BoardEntryFacts.{unclosed-pending, length-places, len
 use Rattle.gw_board.proofs.Spare.{swept_spare, alone_spare}
 use Rattle.gw_board.proofs.board.Board.carry_rest.Goals as goal
 use Rattle.gw_board.proofs.board.Board.carry_rest.Given.{Over}
-use Rattle.gw_board.proofs.board.Board.carry_rest.Goals.{After-all_pending, In-Ok-push}
+use Rattle.gw_board.proofs.board.Board.carry_rest.Goals.{After-all_pending, After-push_reserved}
 
 -- what the caller knows of the board holds of it as its fields are
 none_here : (b now : Seen) → b ≡ now → NothingIsOpen (core_of now) → NothingIsOpen (core_of b)
@@ -152,18 +152,17 @@ returns-in_default-clause-err g c = is_begun g c ∙ ap (λ (x : Seen). begun_bo
 
 -- ---- with all replies
 
-pub unreachable-requires : goal.unreachable-requires
-unreachable-requires g c =
+pub push_reserved-requires : goal.push_reserved-requires
+push_reserved-requires g c =
     let some : 1 ≤ unclosed (value_of c.self.inside).places =
     subst (λ (x : Seen). 1 ≤ unclosed x.places) (sym c.self.view_is)
     (found_some c.args.self.now.places c.first_unclosed.result c.first_unclosed.ensures.first (c.is_none.ensures ∙ ap (λ b. not b) c.if-is_none.false)) in
     let room = c.self.invariant.room.undo_log in
     let taken = c.last_alone-earlier.ensures.len in
     let space = c.last_alone-earlier.ensures.capacity in
-    let full = c.in_default-push.ensures.full in
     omega arith
 
-module _ (g : Over) (c : In-Ok-push g) where
+module _ (g : Over) (c : After-push_reserved g) where
   abbrev b : Seen
   b = value_of c.self.inside
 
@@ -203,8 +202,8 @@ module _ (g : Over) (c : In-Ok-push g) where
   went : MayGoOn b.profile b.start maps places
   went = c.in-Ok.ensures.goes_on b.start (started b way none c.of_tables-draft.result.maps (ap (λ (p : Parted). p.maps) c.of_tables-draft.ensures ∙ ap (λ (s : Stored). maps_of s) c.replace-tables.ensures.value))
 
-  originals_are : c.push.new.self.items ≡ front ++ last ∷ []
-  originals_are = c.in-Ok-push.ensures.items ∙ ap (λ (o : UndoStep). front ++ o ∷ []) c.of_writes.ensures
+  originals_are : c.push_reserved.new.self.items ≡ front ++ last ∷ []
+  originals_are = c.push_reserved.ensures.items ∙ ap (λ (o : UndoStep). front ++ o ∷ []) c.of_writes.ensures
 
   maps_are : maps_of tables ≡ maps
   maps_are = c.into_tables-tables.ensures.maps
@@ -220,7 +219,7 @@ module _ (g : Over) (c : In-Ok-push g) where
   led = took_back b.undo_log front (undo_step_of_writes begun_with) c.last_alone-earlier.ensures.last b.maps ∙ led_from b way none
 
   abbrev new : Seen
-  new = record { profile = b.profile; start = b.start; maps = maps_of tables; places = places; undo_log = c.push.new.self.items }
+  new = record { profile = b.profile; start = b.start; maps = maps_of tables; places = places; undo_log = c.push_reserved.new.self.items }
 
   is_new : new ≡ record { profile = b.profile; start = b.start; maps = maps; places = places; undo_log = front ++ last ∷ [] }
   is_new = λ j. record { profile = b.profile; start = b.start; maps = maps_are j; places = places; undo_log = originals_are j }
@@ -244,7 +243,7 @@ module _ (g : Over) (c : In-Ok-push g) where
     ready = subst (Each (λ o. AreReady o.keys tables)) (sym originals_are) (each_joined (λ o. AreReady o.keys tables) front (last ∷ []) front_ready (c.into_tables-tables.ensures.ready, tt));
   }
 
-  new_spare : (begun_with ≡ []) × (c.self.inside.sweeps_all ≡ false) → NoneIsSpare b.start tables c.push.new.self.items places
+  new_spare : (begun_with ≡ []) × (c.self.inside.sweeps_all ≡ false) → NoneIsSpare b.start tables c.push_reserved.new.self.items places
   new_spare h =
       subst (λ (l : List UndoStep). NoneIsSpare b.start tables l places) (sym originals_are)
       (alone_spare b none front begun_with found c.self.inside.tables tables c.last_alone-earlier.ensures.last h.0 written
@@ -265,8 +264,8 @@ invariant_of-self-2 g c =
     let taken = c.last_alone-earlier.ensures.len in
     let given = c.last_alone-earlier.ensures.capacity in
     let len = c.carry_each.ensures.len in
-    let more = c.in-Ok-push.ensures.len in
-    let space = c.in-Ok-push.ensures.capacity in
+    let more = c.push_reserved.ensures.len in
+    let space = c.push_reserved.ensures.capacity in
     record {
       on_the_way = new_way g c;
       kept = new_kept g c;

@@ -2,12 +2,9 @@ use Rattle.std.proofs.Common.{◌≡◌, ℕ, suc, List, ◌∷◌, ◌++◌, []
 use Rattle.std.specs.Prelude.{slice_get, slice_set}
 use Rattle.gw_table.specs.Parts.{Parted, list_of, overlaid}
 use Rattle.gw_table.specs.Stored.{maps_of, AreOut, CameBack}
-use Rattle.std.specs.BinaryHeap.{heap_items}
-use Rattle.gw_board.specs.Candidates.{AreFree}
 use Rattle.gw_board.specs.Carried.{BurstRequest}
 use Rattle.gw_board.specs.Core.{Place}
-use Rattle.gw_board.specs.Links.{AreLinked}
-use Rattle.gw_board.proofs.Joining.{free_yet}
+use Rattle.gw_board.proofs.Joining.{candidates_yet}
 use Rattle.gw_board.specs.BoardView.{value_of, IsOnTheWay, IsKeptIn, NoneIsSpare}
 use Rattle.gw_board.specs.Boards.{Seen, Handed, requested_in, HasOpen, job_of, undo_step_in, outcome_of, with_result, unclosed}
 use Rattle.gw_board.specs.Core.{Place, Closed, open_with}
@@ -19,7 +16,7 @@ use Rattle.gw_board.proofs.OnTheWay.{gives_the_fold, result_way}
 use Rattle.gw_board.proofs.BoardEntryFacts.{seat_inside}
 use Rattle.gw_board.proofs.Spare.{result_spare}
 use Rattle.gw_board.proofs.board.Board.close_with.Goals as goal
-use Rattle.gw_board.proofs.board.Board.close_with.Goals.{In-Ok}
+use Rattle.gw_board.proofs.board.Board.close_with.Goals.{After-push_reserved}
 
 -- the job is open on the board as its fields are
 here : (b now : Seen) (h : Handed) → b ≡ now → HasOpen now h → HasOpen b h
@@ -40,16 +37,15 @@ set_stage-requires c =
     seat_inside c.self.inside.board_entries.items c.job.inside.place (open_with c.args.job.requested (job_of c.args.job))
     (stands_at b c.args.job c.job.inside.place (ap (λ (h : Handed). h.place) c.job.view_is) (here b c.args.self.now c.args.job c.self.view_is c.requires.«open»))
 
-pub unreachable-requires : goal.unreachable-requires
-unreachable-requires c =
+pub push_reserved-requires : goal.push_reserved-requires
+push_reserved-requires c =
     let b : Seen = value_of c.self.inside in
     let o : HasOpen b c.args.job = here b c.args.self.now c.args.job c.self.view_is c.requires.«open» in
     let fewer : suc (unclosed (with_result b c.args.job).places) ≡ unclosed b.places = fewer_unclosed b c.args.job o in
     let room = c.self.invariant.room.undo_log in
-    let full = c.in_default.ensures.full in
     omega arith
 
-module _ (c : In-Ok) where
+module _ (c : After-push_reserved) where
   abbrev b : Seen
   b = value_of c.self.inside
 
@@ -67,14 +63,14 @@ module _ (c : In-Ok) where
       c.set_stage.ensures.places (open_with h.requested (job_of h)) (stands_at b h c.job.inside.place (ap (λ (x : Handed). x.place) c.job.view_is) o)
       ∙ (λ j. slice_set b.places ((c.job.view_is j).place) (record { requested = h.requested; standing = Closed (c.requires.reply j) }))
 
-  originals_are : c.push.new.self.items ≡ (with_result b h).undo_log
+  originals_are : c.push_reserved.new.self.items ≡ (with_result b h).undo_log
   originals_are =
-      c.in-Ok.ensures.items
+      c.push_reserved.ensures.items
       ∙ ap (λ (o : UndoStep). b.undo_log ++ o ∷ []) c.of_job.ensures
       ∙ ap (λ (x : Handed). b.undo_log ++ undo_step_in x ∷ []) c.job.view_is
 
   abbrev new : Seen
-  new = record { profile = b.profile; start = b.start; maps = maps_of c.put_back.new.self; places = map place_of c.set_stage.new.board_entries.items; undo_log = c.push.new.self.items }
+  new = record { profile = b.profile; start = b.start; maps = maps_of c.put_back.new.self; places = map place_of c.set_stage.new.board_entries.items; undo_log = c.push_reserved.new.self.items }
 
   is_new : new ≡ with_result b h
   is_new = λ j. record { profile = b.profile; start = b.start; maps = maps_are j; places = places_are j; undo_log = originals_are j }
@@ -86,23 +82,18 @@ invariant_of-self c =
     let replies = c.self.invariant.room.replies in
     let all = c.self.invariant.room.all in
     let len = c.set_stage.ensures.len in
-    let more = c.in-Ok.ensures.len in
-    let space = c.in-Ok.ensures.capacity in
+    let more = c.push_reserved.ensures.len in
+    let space = c.push_reserved.ensures.capacity in
     let back : CameBack (h c).keys c.self.inside.tables c.put_back.new.self = subst (λ (p : Parted). CameBack (list_of p.keys) c.self.inside.tables c.put_back.new.self) c.requires.part c.put_back.ensures.out in
     record {
       on_the_way = subst IsOnTheWay (sym (is_new c)) (result_way (b c) (h c) c.self.invariant.on_the_way (o c));
       kept = subst (IsKeptIn c.put_back.new.self) (sym (is_new c))
           (result_kept_in (b c) c.self.invariant.on_the_way (h c) (o c) c.self.inside.tables c.self.invariant.kept c.put_back.new.self back (λ k i. c.put_back.ensures.ready k ∙ i));
       room = record { undo_log = omega arith; all = omega arith; replies = omega arith; no_replies = c.self.invariant.room.no_replies };
-      candidates = record {
-        linked = subst (λ (l : List BurstRequest). AreLinked l c.self.inside.candidates.links.items) (sym c.set_stage.ensures.requested) c.self.invariant.candidates.linked;
-        listed = c.self.invariant.candidates.listed;
-        ordered = c.self.invariant.candidates.ordered;
-        free = subst (λ (l : List Place). AreFree l c.self.inside.candidates.links.items (heap_items c.self.inside.candidates.free)) (sym (places_are c))
-            (free_yet (b c).places (h c).place (open_with (h c).requested (job_of (h c))) _ c.self.inside.candidates.links.items (heap_items c.self.inside.candidates.free) (o c).stands refl refl c.self.invariant.candidates.free);
-      };
+      candidates = candidates_yet (b c).places (map place_of c.set_stage.new.board_entries.items) (h c).place (open_with (h c).requested (job_of (h c))) _ c.self.inside.candidates (places_are c) c.set_stage.ensures.requested
+          (o c).stands refl refl c.self.invariant.candidates;
       spare = λ e.
-          subst (λ (l : List Place). NoneIsSpare (b c).start c.put_back.new.self c.push.new.self.items l) (sym (places_are c))
+          subst (λ (l : List Place). NoneIsSpare (b c).start c.put_back.new.self c.push_reserved.new.self.items l) (sym (places_are c))
           (subst (λ (l : List UndoStep). NoneIsSpare (b c).start c.put_back.new.self l (with_result (b c) (h c)).places) (sym (originals_are c))
           (result_spare (b c) (h c) (o c) c.self.inside.tables c.put_back.new.self (outcome_of (h c)).maps c.put_back.ensures.ready (maps_are c) (c.self.invariant.spare e)));
     }

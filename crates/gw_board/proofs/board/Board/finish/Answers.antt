@@ -44,12 +44,12 @@ pub loop-board_entry-preserved : goal.loop-board_entry-preserved
 loop-board_entry-preserved c =
     let split = c.in-Some.ensures.steps.0 in
     let count : length c.loop-board_entry.board_entry-iterator.rest.items ≡ length (c.in-Some.board_entry ∷ c.next.new.self.rest.items) = ap length split in
-    let more = c.in-Ok.ensures.len in
-    let space = c.in-Ok.ensures.capacity in
+    let more = c.push_reserved.ensures.len in
+    let space = c.push_reserved.ensures.capacity in
     let room = c.loop-board_entry.invariant.room in
     record {
       limited_text =
-          ap (λ (l : List Text). told_as l c.next.new.self.rest.items) c.in-Ok.ensures.items
+          ap (λ (l : List Text). told_as l c.next.new.self.rest.items) c.push_reserved.ensures.items
           ∙ told_more c.loop-board_entry.replies.items c.in-Closed.reply c.in-Some.board_entry c.next.new.self.rest.items c.in-Closed.is
           ∙ ap (told_as c.loop-board_entry.replies.items) (sym split)
           ∙ c.loop-board_entry.invariant.limited_text;
@@ -57,11 +57,10 @@ loop-board_entry-preserved c =
       room = omega arith;
     }
 
-pub unreachable-requires-in_default-push : goal.unreachable-requires-in_default-push
-unreachable-requires-in_default-push c =
+pub push_reserved-requires : goal.push_reserved-requires
+push_reserved-requires c =
     let count : length c.loop-board_entry.board_entry-iterator.rest.items ≡ length (c.in-Some.board_entry ∷ c.next.new.self.rest.items) = ap length c.in-Some.ensures.steps.0 in
     let room = c.loop-board_entry.invariant.room in
-    let full = c.in_default-push.ensures.full in
     omega arith
 
 -- no seat is left, so each is closed with its reply

@@ -5,11 +5,9 @@ use Rattle.gw_base.specs.declared.key.Key.{Key}
 use Rattle.gw_table.specs.Maps.{Maps}
 use Rattle.gw_table.specs.Parts.{Only, list_of, restricted, cut}
 use Rattle.gw_table.specs.Stored.{maps_of, is_out, names_entry, AreIn, NoOtherReady}
-use Rattle.std.specs.BinaryHeap.{heap_items}
-use Rattle.gw_board.specs.Candidates.{AreCandidates, AreFreeBut}
-use Rattle.gw_board.specs.Links.{AreLinked}
+use Rattle.gw_board.specs.Candidates.{AreCandidates, AreCandidatesBut}
 use Rattle.gw_board.specs.declared.board_entry.BoardEntry.{BoardEntry}
-use Rattle.gw_board.proofs.Joining.{free_but}
+use Rattle.gw_board.proofs.Joining.{candidates_but}
 use Rattle.gw_board.specs.BoardView.{value_of, IsOnTheWay, IsKeptIn, NoneIsSpare}
 use Rattle.gw_board.specs.Boards.{Seen, Handed, requested_in, core_of, Opens, with_open, unclosed}
 use Rattle.gw_board.specs.Carried.{BurstRequest}
@@ -33,23 +31,13 @@ take_out-part-requires-clause-here c =
 pub set_stage-requires : goal.set_stage-requires
 set_stage-requires c = seat_inside c.self.inside.board_entries.items c.args.place (pending c.args.task) (ap (λ (x : Seen). slice_get x.places c.args.place) c.self.view_is ∙ c.requires.pends)
 
-pub release-requires-clause-linked : goal.release-requires-clause-linked
-release-requires-clause-linked c =
-    subst (λ (l : List BurstRequest). AreLinked l c.self.inside.candidates.links.items)
-    (sym (ap (λ (l : List BoardEntry). requested_in (map place_of l)) c.deref.ensures.value ∙ c.set_stage.ensures.requested)) c.self.invariant.candidates.linked
-
-pub release-requires-clause-listed : goal.release-requires-clause-listed
-release-requires-clause-listed c = c.self.invariant.candidates.listed
-
-pub release-requires-clause-ordered : goal.release-requires-clause-ordered
-release-requires-clause-ordered c = c.self.invariant.candidates.ordered
-
-pub release-requires-clause-free : goal.release-requires-clause-free
-release-requires-clause-free c =
-    let pends : slice_get (value_of c.self.inside).places c.args.place ≡ Some (pending c.args.task) = ap (λ (x : Seen). slice_get x.places c.args.place) c.self.view_is ∙ c.requires.pends in
-    subst (λ (l : List Place). AreFreeBut c.args.place l c.self.inside.candidates.links.items (heap_items c.self.inside.candidates.free))
-    (sym (ap (λ (l : List BoardEntry). map place_of l) c.deref.ensures.value ∙ c.set_stage.ensures.places (pending c.args.task) pends))
-    (free_but (value_of c.self.inside).places c.args.place _ c.self.inside.candidates.links.items (heap_items c.self.inside.candidates.free) refl c.self.invariant.candidates.free)
+pub release-requires : goal.release-requires
+release-requires c =
+    let b : Seen = value_of c.self.inside in
+    subst (λ (l : List BoardEntry). AreCandidatesBut c.args.place (map place_of l) c.self.inside.candidates) (sym c.deref.ensures.value)
+    (candidates_but b.places (map place_of c.set_stage.new.board_entries.items) c.args.place _ c.self.inside.candidates
+    (c.set_stage.ensures.places (pending c.args.task) (ap (λ (x : Seen). slice_get x.places c.args.place) c.self.view_is ∙ c.requires.pends))
+    c.set_stage.ensures.requested refl c.self.invariant.candidates)
 
 module _ (c : After-release) where
   abbrev b : Seen

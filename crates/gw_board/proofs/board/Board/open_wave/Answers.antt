@@ -36,11 +36,11 @@ loop-planned-preserved c =
     let job : Handed = c.in-Ok.job in
     let rest : List Planned = c.next.new.self.rest.items in
     let opened : Opens b c.in-Some.planned.place job d = c.in-Ok.ensures.job in
-    let pushed : c.push.new.self.items ≡ jobs ++ job ∷ [] = c.in-Ok-push.ensures.items in
+    let pushed : c.push_reserved.new.self.items ≡ jobs ++ job ∷ [] = c.push_reserved.ensures.items in
     let split : length c.loop-planned.planned-iterator.rest.items ≡ length (c.in-Some.planned ∷ rest) = ap length c.in-Some.ensures.steps.0 in
     let room = c.loop-planned.invariant.room in
-    let len = c.in-Ok-push.ensures.len in
-    let capacity = c.in-Ok-push.ensures.capacity in
+    let len = c.push_reserved.ensures.len in
+    let capacity = c.push_reserved.ensures.capacity in
     record {
       turn = c.in-Ok.ensures.next rest (subst (λ (l : List Planned). MayOpenInTurn b l) c.in-Some.ensures.steps.0 c.loop-planned.invariant.turn);
       open_still = subst (λ (l : List Handed). AreOpen d l) (sym pushed) (one_opened b d c.in-Some.planned.place job opened jobs c.loop-planned.invariant.open_still);
