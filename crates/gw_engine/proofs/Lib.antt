@@ -13,3 +13,4 @@ pub mod Reserving
 pub mod Carrying
 pub mod Answered
 pub mod Outcomes
+pub mod Crossing

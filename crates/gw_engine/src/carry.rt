@@ -150,13 +150,11 @@ fn with_texts(
 {
     for bytes in texts {
         let job = &jobs[entries.len()];
-        let Ok(()) = entries.push(Entry {
+        entries.push_reserved(Entry {
             mid: *job.mid.mid(),
             id: job.request.id(),
             bytes,
-        }) else {
-            unreachable!()
-        };
+        });
     }
     entries
 }
