@@ -1,15 +1,16 @@
 -- A termination that leaves its context before it is subtracted: what the Subtract does to its targets is the same.
 use Rattle.std.proofs.Common.{◌≡◌, ℕ, Bool, true, false, cond, List, [], ◌∷◌, filter, Option, None, Some, bytes_eq, Result, Ok, refl, sym, ap, subst, ◌∙◌}
-use Rattle.std.specs.Prelude.{◌||◌}
+use Rattle.std.specs.Prelude.{◌≢◌, ◌||◌}
 use Rattle.std.proofs.lemmas.List.Elements.{filter_passes}
 use Rattle.gw_base.specs.declared.code.Code.{Code}
 use Rattle.gw_base.specs.declared.command_words.Rules.{Rules}
 use Rattle.gw_base.specs.declared.command_words.Verb.{Verb}
 use Rattle.gw_base.specs.declared.command_words.Verb.TheVariants.{Subtract}
 use Rattle.gw_base.specs.declared.ids.CtxNum.{CtxNum}
+use Rattle.gw_base.specs.declared.key.Key.TheVariants.{Term}
 use Rattle.gw_base.specs.declared.term_ref.TermRef.TheVariants.{Name}
 use Rattle.gw_base.specs.NameLists.{is_in, without, NoDoubles}
-use Rattle.gw_base.proofs.NamesInLists.{dropped, gone}
+use Rattle.gw_base.proofs.NamesInLists.{or_left, or_right, itself, dropped, gone}
 use Rattle.gw_base.proofs.NameTests.{same_name, number_itself}
 use Rattle.gw_ctx.specs.Contexts.{ContextRecord, left, is_apart_from}
 use Rattle.gw_ctx.proofs.Lists.{filter_all}
@@ -22,12 +23,10 @@ use Rattle.gw_table.specs.declared.attempts.Attempts.{Attempts}
 use Rattle.gw_table.specs.Folds.{attempts_behind}
 use Rattle.gw_table.specs.Maps.{Maps, Outcome, term, ctx, put_term, put_ctx, place_of, context_of, members_of}
 use Rattle.gw_table.specs.Members.{without_member, unless_none, unless_empty}
-use Rattle.gw_table.specs.Parts.{PartKeys}
+use Rattle.gw_table.specs.Parts.{PartKeys, holds}
 use Rattle.gw_table.specs.WellFormed.{IsSound}
 use Rattle.gw_table.proofs.Folding.{in_order-more}
-use Rattle.gw_table.proofs.Leaving.{put_ctx-same}
-use Rattle.gw_table.proofs.Lookups.{term-put_term, ctx-put_term, term-put_ctx, ctx-put_ctx, put_ctx-put_ctx}
-use Rattle.gw_refusal.specs.Places.{same_place}
+use Rattle.gw_table.proofs.Lookups.{term-put_term, ctx-put_term, ctx-put_ctx, put_ctx-put_ctx}
 use Rattle.gw_refusal.specs.Requested.{audited}
 use Rattle.gw_cmd.specs.declared.change.Change.TheVariants.{Leaves}
 use Rattle.gw_cmd.specs.declared.change.Decided.{Decided}
@@ -37,7 +36,6 @@ use Rattle.gw_cmd.specs.declared.task.Act.TheVariants as act
 use Rattle.gw_cmd.specs.declared.task.Task.TheVariants as does
 use Rattle.gw_cmd.specs.Suits.{LeaveFirst}
 use Rattle.gw_cmd.specs.Tasks.{target_in, targets_in}
-use Rattle.gw_cmd.proofs.Lawful.{same_there}
 use Rattle.gw_cmd.proofs.LeftAlone.{stands_here}
 use Rattle.gw_cmd.proofs.Sound.{members-unless_empty, ctx-without_member, term-without_member, sound_left}
 use Rattle.gw_cmd.proofs.Written.{without_last}
@@ -209,24 +207,31 @@ one_leaves keys n named old t m i there h = record {
   sound = sound_left keys n t m h.sound;
 }
 
--- with what is left of the context in its place
-abbrev pub IsBehind : PartKeys → CtxNum → List (List ℕ) → Maps → Maps → Option ContextRecord → Type 0
-IsBehind keys n named old out o = LeaveFirst keys (does.Act (act.Subtract n)) named old (put_ctx out n o)
+-- ---- all members leave, and the context ends with the last of them
 
--- at first none of them has left
-pub none_left : (keys : PartKeys) (n : CtxNum) (named : List (List ℕ)) (m out : Maps) (o : Option ContextRecord) → IsSound keys m → out ≡ put_ctx m n None → o ≡ ctx m n → IsBehind keys n named m out o
-none_left keys n named m out o sound taken is =
-    subst (LeaveFirst keys (does.Act (act.Subtract n)) named m)
-    (sym (ap (λ (y : Maps). put_ctx y n o) taken ∙ put_ctx-put_ctx m n None o ∙ put_ctx-same m n o is))
-    (record { same = λ _ _ _. refl; terms = λ _. refl; sound = sound })
+module _ (keys : PartKeys) (n : CtxNum) (named : List (List ℕ)) (every : (t : List ℕ) → holds keys (Term t) ≡ true) (old : Maps) where
+  abbrev Behind : Maps → Type 0
+  Behind m = LeaveFirst keys (does.Act (act.Subtract n)) named old m
 
--- then one more
-pub next_left : (keys : PartKeys) (n : CtxNum) (named : List (List ℕ)) (old out : Maps) (o : Option ContextRecord) (x : List ℕ) → is_in x named ≡ true → same_place (place_of (term out x)) (Some n) ≡ true
-    → IsBehind keys n named old out o → IsBehind keys n named old out (unless_empty (left x (context_of o)))
-next_left keys n named old out o x i here h =
-    let there : place_of (term (put_ctx out n o) x) ≡ Some n = ap (λ (y : Option Termination). place_of y) (term-put_ctx out n o x) ∙ same_there (place_of (term out x)) (Some n) here in
-    subst (LeaveFirst keys (does.Act (act.Subtract n)) named old) (written_left n x out o) (one_leaves keys n named old x (put_ctx out n o) i there h)
+  others : (x : List ℕ) (xs : List (List ℕ)) (m : Maps) → members_of (ctx m n) ≡ x ∷ xs → (left x (context_of (ctx m n))).members ≡ xs
+  others x xs m members = ap (without x) members ∙ ap (λ (b : Bool). cond b xs (x ∷ without x xs)) (itself x)
 
--- where it has ended, it stays out
-pub ended_out : (n : CtxNum) (m out : Maps) (o : Option ContextRecord) → out ≡ put_ctx m n None → o ≡ None → put_ctx out n o ≡ out
-ended_out n m out o taken is = ap (λ (x : Option ContextRecord). put_ctx out n x) is ∙ ap (λ (y : Maps). put_ctx y n None) taken ∙ put_ctx-put_ctx m n None None ∙ sym taken
+  first_left : (x : List ℕ) (xs : List (List ℕ)) (m : Maps) → members_of (ctx m n) ≡ x ∷ xs → ((t : List ℕ) → is_in t (x ∷ xs) ≡ true → is_in t named ≡ true) → Behind m → Behind (without_member n x m)
+  first_left x xs m members inside h =
+      let stands : is_in x (x ∷ xs) ≡ true = or_left (bytes_eq x x) (is_in x xs) (itself x) in
+      one_leaves keys n named old x m (inside x stands) (h.sound.recorded x n (every x) (ap (is_in x) members ∙ stands)) h
+
+  each_left : (x : List ℕ) (xs : List (List ℕ)) (m : Maps) → members_of (ctx m n) ≡ x ∷ xs → ((t : List ℕ) → is_in t (x ∷ xs) ≡ true → is_in t named ≡ true) → Behind m → Behind (put_ctx m n None)
+  each_left x [] m members inside h =
+      subst Behind (ap (λ (l : List (List ℕ)). put_ctx m n (unless_none l (left x (context_of (ctx m n))))) (others x [] m members)) (first_left x [] m members inside h)
+  each_left x (y ∷ ys) m members inside h =
+      let rest : ContextRecord = left x (context_of (ctx m n)) in
+      subst Behind (put_ctx-put_ctx m n (unless_empty rest) None)
+      (each_left y ys (without_member n x m)
+      (ap (λ (o : Option ContextRecord). members_of o) (ctx-without_member n x m n ∙ ap (λ (b : Bool). cond b (unless_empty rest) (ctx m n)) (number_itself n n refl)) ∙ members-unless_empty rest ∙ others x (y ∷ ys) m members)
+      (λ t i. inside t (or_right (bytes_eq t x) (is_in t (y ∷ ys)) i)) (first_left x (y ∷ ys) m members inside h))
+
+pub all_left : (keys : PartKeys) (n : CtxNum) (named : List (List ℕ)) (m : Maps) → IsSound keys m → ((t : List ℕ) → holds keys (Term t) ≡ true) → members_of (ctx m n) ≡ named → named ≢ []
+    → LeaveFirst keys (does.Act (act.Subtract n)) named m (put_ctx m n None)
+all_left keys n [] m sound every members some = absurd (some refl)
+all_left keys n (x ∷ xs) m sound every members some = each_left keys n (x ∷ xs) every m x xs m members (λ _ i. i) (record { same = λ _ _ _. refl; terms = λ _. refl; sound = sound })

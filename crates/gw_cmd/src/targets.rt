@@ -1,11 +1,9 @@
 //! What a command does to its targets, and their replies.
 
-ghost use Rattle.std.specs.Prelude.{◌≡◌, ◌∷◌, [], ℕ, true, false, List, IfOk, OnOk};
+ghost use Rattle.std.specs.Prelude.{◌≡◌, ◌≢◌, ◌∷◌, [], ℕ, true, false, List, IfOk, OnOk, option_copied};
 ghost use Rattle.gw_base.specs.declared.term_ref.TermRef.TheVariants.{Name};
 ghost use Rattle.gw_base.specs.NameLists.{is_in};
-ghost use Rattle.gw_ctx.specs.Contexts.{left};
-ghost use Rattle.gw_table.specs.Maps.{term, place_of, context_of};
-ghost use Rattle.gw_table.specs.Members.{unless_empty};
+ghost use Rattle.gw_table.specs.Maps.{term, place_of, members_of};
 ghost use Rattle.gw_table.specs.Parts.{HoldsPlace};
 ghost use Rattle.gw_table.specs.WellFormed.{IsSound};
 ghost use Rattle.gw_refusal.specs.Requested.{is_move};
@@ -16,14 +14,13 @@ ghost use Rattle.gw_cmd.specs.Suits.{HoldsMoved, HoldsFound, LeaveFirst};
 ghost use Rattle.gw_cmd.specs.Tasks.{task_place, task_verb, targets_in, Does};
 ghost use Rattle.gw_cmd.specs.Written.{seen};
 
-use crate::decide::is_same_place;
 use crate::effects::on_name;
 use crate::outcome::Seen;
 use crate::prepared::Prepared;
 use crate::refusal::Refusal;
 use crate::replies::{writes_none, written};
 use crate::task::{Act, Task};
-use gw_base::{CtxNum, NoMemory, TermName, TermRef};
+use gw_base::{NoMemory, TermRef};
 use gw_ctx::Context;
 use gw_reply::{CommandReply, ReplyWriter};
 use gw_table::{Draft, Target};
@@ -62,36 +59,28 @@ pub(crate) fn on_target(
     )
 }
 
-/// The context that a termination is in.
-fn place_of(draft: &Draft, target: &Target) -> Option<CtxNum>
-    ensures { result ≡ place_of (term draft.now.maps target.now) }
+/// Whether these are the members of a context, in joining order, and there is one.
+fn are_all(context: Option<&Context>, named: &[Target]) -> bool
+    ensures { result ≡ true → (members_of (option_copied context.entry) ≡ named.now) × (named.now ≢ []) }
 {
-    let (record, _) = draft.term_at(target.guide(), target.name())?;
-    record.place()
-}
-
-/// The name leaves a context, which ends with its last member.
-fn leave(context: &mut Option<Context>, name: &TermName)
-    ensures { context.new ≡ unless_empty (left name.now (context_of context.old)) }
-{
-    let ends = match context {
-        Some(context) => {
-            context.leave(name);
-            context.members().is_empty()
-        }
-        None => false,
+    let Some(context) = context else {
+        return false;
     };
-    if ends {
-        *context = None;
+    let members = context.members().as_slice();
+    if named.is_empty() || members.len() != named.len() {
+        return false;
     }
+    for place in 0..members.len() {
+        if !(members[place] == *named[place].name()) {
+            return false;
+        }
+    }
+    true
 }
 
-/// From so many terminations on, those of a Subtract leave their context first.
-const MANY: usize = 8;
-
-/// Where there are many, those of these terminations that a Subtract takes out of its context leave it before their
-/// records change: the last of them first, since behind it no member moves. The Subtract does the same to them then.
-fn leave_first(draft: &mut Draft, task: Task, named: &[Target]) -> Result<(), NoMemory>
+/// A Subtract of all members of its context ends that before their records change, so that whole tables log the context
+/// itself and no copy of it. The Subtract does the same to its targets then.
+fn end_first(draft: &mut Draft, task: Task, named: &[Target]) -> Result<(), NoMemory>
     requires sound { IsSound draft.old.keys draft.old.maps }
     requires ctx_key { HoldsPlace draft.old.keys (task_place task) }
     ensures first { OnOk result (LeaveFirst draft.old.keys task named.now draft.old.maps draft.new.maps) }
@@ -100,20 +89,10 @@ fn leave_first(draft: &mut Draft, task: Task, named: &[Target]) -> Result<(), No
     let Task::Act(Act::Subtract(number)) = task else {
         return Ok(());
     };
-    if named.len() < MANY {
-        return Ok(());
+    if draft.has_every_key() && are_all(draft.ctx(number), named) {
+        draft.set_ctx(number, None)?;
     }
-    let mut context = draft.take_ctx(number)?;
-    for i in (0..named.len()).rev() {
-        let target = &named[i];
-        if is_same_place(place_of(draft, target), Some(number)) {
-            leave(&mut context, target.name());
-        }
-    }
-    match context {
-        Some(context) => draft.set_ctx(number, Some(context)),
-        None => Ok(()),
-    }
+    Ok(())
 }
 
 /// Does the task to these terminations, one after another; none stops the others.
@@ -135,7 +114,7 @@ pub(crate) fn on_targets(
     ensures keys { draft.new.keys ≡ draft.old.keys }
     ensures same { IsSameCommand prepared.old prepared.new }
 {
-    leave_first(draft, task, named)?;
+    end_first(draft, task, named)?;
     let mut written = writer;
     let mut first_error = None;
     let mut any_done = false;

@@ -120,9 +120,9 @@ returns c =
 
 pub loop-target-init : goal.loop-target-init
 loop-target-init c = record {
-  replies = ([], sym (written_none command_reply_text c.args.writer), refl, refl, c.in_ok-leave_first.ensures.first.same c.args.prepared.now.rules.now c.args.prepared.now.command.now c.requires.does);
-  sound = c.in_ok-leave_first.ensures.first.sound;
-  absent = λ q none. c.in_ok-leave_first.ensures.first.terms q ∙ none;
-  keys = c.leave_first.ensures.keys;
+  replies = ([], sym (written_none command_reply_text c.args.writer), refl, refl, c.in_ok-end_first.ensures.first.same c.args.prepared.now.rules.now c.args.prepared.now.command.now c.requires.does);
+  sound = c.in_ok-end_first.ensures.first.sound;
+  absent = λ q none. c.in_ok-end_first.ensures.first.terms q ∙ none;
+  keys = c.end_first.ensures.keys;
   same = same_itself c.args.prepared.now;
 }
