@@ -4,7 +4,7 @@ use Rattle.std.specs.Prelude.{slice_get, slice_set}
 use Rattle.std.specs.List.{list_any}
 use Rattle.gw_base.proofs.Booleans.{neither}
 use Rattle.gw_board.specs.Texts.{Text}
-use Rattle.gw_board.specs.Boards.{requested_in, is_closed, AllClosed, unclosed}
+use Rattle.gw_board.specs.Boards.{requested_in, is_closed, is_pending_at, AllClosed, unclosed}
 use Rattle.gw_board.specs.Carried.{BurstRequest}
 use Rattle.gw_board.specs.Core.{Standing, Closed, Place, pending}
 use Rattle.gw_board.specs.BoardEntries.{standing_of, place_of}
@@ -35,6 +35,11 @@ pub seat_place : (board_entries : List BoardEntry) (i : ℕ) (s : BoardEntry) �
 seat_place [] i s l f = absurd (omega arith)
 seat_place (t ∷ ts) zero s l f = ap (λ (x : BoardEntry). Some (place_of x)) (sym f)
 seat_place (t ∷ ts) (suc i) s l f = seat_place ts i s (omega arith) f
+
+pub pending_inside : (places : List Place) (i : ℕ) → is_pending_at (slice_get places i) ≡ true → i < length places
+pending_inside [] i h = absurd cc
+pending_inside (p ∷ ps) zero h = omega arith
+pending_inside (p ∷ ps) (suc i) h = let below : i < length ps = pending_inside ps i h in omega (arith, below)
 
 -- ---- how many are not closed
 

@@ -1,7 +1,7 @@
--- A place is carried out alone: nothing is open, and every place before it is closed. It comes to what opening it and closing it with its
--- result comes to, with an original that has the keys alone that were changed since the last place that was a job's.
-use Rattle.std.proofs.Common.{◌≡◌, ℕ, zero, suc, Bool, true, false, not, List, [], ◌∷◌, ◌++◌, take, drop, None, Some, refl, sym, ap, subst, ◌∙◌}
-use Rattle.std.specs.Prelude.{◌||◌, ◌&&◌, slice_get, slice_set}
+-- A place is executed alone: nothing is open, and every place before it is closed. It comes to what opening it and closing it with its
+-- result comes to.
+use Rattle.std.proofs.Common.{◌≡◌, ℕ, zero, suc, Bool, true, false, not, List, [], ◌∷◌, take, drop, None, Some, refl, sym, ap, subst, ◌∙◌}
+use Rattle.std.specs.Prelude.{◌||◌, slice_get, slice_set}
 use Rattle.std.specs.List.{list_any}
 use Rattle.gw_base.specs.declared.key.Key.{Key}
 use Rattle.gw_base.specs.Keys.{has}
@@ -10,30 +10,28 @@ use Rattle.gw_reserve.specs.Owned.{AreFreeSlots}
 use Rattle.gw_table.specs.Locality.{KeepsTo}
 use Rattle.gw_table.specs.Maps.{Maps, Outcome}
 use Rattle.gw_table.specs.Parts.{restricted, cut, overlaid}
-use Rattle.gw_table.specs.Stored.{Stored, names_entry, AreReady, KeepReady, NoneIsOut, maps_of}
+use Rattle.gw_table.specs.Stored.{Stored, AreReady}
 use Rattle.gw_table.specs.WellFormed.{AreWellFormed}
+use Rattle.gw_board.specs.declared.profile.Profile.{Profile}
 use Rattle.gw_board.specs.Alone.{is_unclosed_at, TakesLast, Off, Fresh}
-use Rattle.gw_board.specs.BoardView.{IsOnTheWay, IsKeptIn}
-use Rattle.gw_board.specs.Boards.{Seen, Handed, core_of, requested_in, with_open, with_result, is_closed, is_pending_at, AllClosed, unclosed}
-use Rattle.gw_board.specs.Carried.{BurstRequest, keys_of, done, carried}
+use Rattle.gw_board.specs.BoardView.{IsOnTheWay}
+use Rattle.gw_board.specs.Boards.{Seen, Handed, core_of, with_open, with_result, is_closed, is_pending_at, AllClosed}
+use Rattle.gw_board.specs.Carried.{BurstRequest, keys_of, done}
 use Rattle.gw_board.specs.Core.{Standing, Pending, Opened, Closed, Place, Job, pending, open_with, closed_with, meets_at, meets_any, MayOpen}
 use Rattle.gw_board.specs.Fitting.{Each, out, Stands, Beside, Stand}
 use Rattle.gw_board.specs.GoingOn.{MayGoOn}
 use Rattle.gw_board.specs.Journal.{UndoStep, led as led_to, undone}
-use Rattle.gw_board.specs.OpenJobs.{IsSameBurst}
-use Rattle.gw_board.specs.Results.{is_open, carried_on, NothingIsOpen}
+use Rattle.gw_board.specs.Results.{is_open, NothingIsOpen}
 use Rattle.gw_board.specs.Texts.{Text}
 use Rattle.gw_board.specs.Waves.{is_pending}
 use Rattle.gw_board.proofs.Comes.{out_of_none}
 use Rattle.gw_board.proofs.Drawing.{set_here}
-use Rattle.gw_board.proofs.KeptIn.{all_ready}
-use Rattle.gw_board.proofs.OnTheWay.{requested-set, set_twice, begun_still, open_way, result_way}
-use Rattle.gw_board.proofs.Orders.{behind_in, each_joined, each_front, each_behind}
+use Rattle.gw_board.proofs.OnTheWay.{set_twice, open_way, result_way}
+use Rattle.gw_board.proofs.Orders.{behind_in, each_front, each_behind}
 use Rattle.gw_board.proofs.Outs.{cut_none, laid_on}
 use Rattle.gw_board.proofs.Requests.{keeps}
-use Rattle.gw_board.proofs.BoardEntryFacts.{unclosed-less}
 use Rattle.gw_board.proofs.Slices.{parts_at}
-use Rattle.gw_board.proofs.Steps.{made_of, undone-append}
+use Rattle.gw_board.proofs.Steps.{undone-append}
 
 -- ---- places
 
@@ -71,6 +69,17 @@ closed_here (q ∷ qs) (suc i) p e f h =
     let both = neither (not (is_closed q.standing)) (list_any (λ x. not (is_closed x.standing)) (take i qs)) h in
     λ k. both.0 k || closed_here qs i p e f both.1 k
 
+-- one of those that are closed is not pending
+pub closed_there : (places : List Place) (i : ℕ) (p : Place) → slice_get places i ≡ Some p → AllClosed (take (suc i) places) → is_pending p.standing ≡ false
+closed_there [] i p e h = absurd cc
+closed_there (q ∷ qs) zero p e h = let same : q ≡ p = cc in subst (λ (x : Place). is_pending x.standing ≡ false) same (by q.standing (neither (not (is_closed q.standing)) false h).0)
+  where
+    by : (x : Standing) → not (is_closed x) ≡ false → is_pending x ≡ false
+    by Pending f = absurd cc
+    by (Opened j) f = refl
+    by (Closed reply) f = refl
+closed_there (q ∷ qs) (suc i) p e h = closed_there qs i p e (neither (not (is_closed q.standing)) (list_any (λ x. not (is_closed x.standing)) (take (suc i) qs)) h).1
+
 -- what is neither closed nor open is pending
 pub unclosed_pends : (places : List Place) (i : ℕ) → list_any (λ p. is_open p.standing) places ≡ false → is_unclosed_at (slice_get places i) ≡ true → is_pending_at (slice_get places i) ≡ true
 unclosed_pends [] i none h = absurd cc
@@ -92,16 +101,6 @@ or_nothing false = refl
 laid_same : (k : List Key) (p m : Maps) → overlaid k p (cut k m) ≡ overlaid k p m
 laid_same k p m = laid_on k [] k p m (λ q. or_nothing (has k q)) (λ q h. refl) ∙ cut_none [] (overlaid k p m) (λ q. refl)
 
--- ---- the place
-
--- the reply stands there, and this original is the journal's last, behind these
-abbrev pub with_alone : Seen → ℕ → BurstRequest → List UndoStep → UndoStep → Seen
-with_alone b i a front last = record b {
-  maps = (done b.profile a b.maps).maps;
-  places = slice_set b.places i (closed_with a (done b.profile a b.maps).answer);
-  undo_log = front ++ last ∷ [];
-}
-
 -- ---- the original that is gone on with
 
 pub took_back : (before after : List UndoStep) (last : UndoStep) → TakesLast before after last → (m : Maps) → undone after (led_to last m) ≡ undone before m
@@ -115,9 +114,21 @@ took_ready before after last (Off e) s h =
 took_ready before after last (Fresh e f) s h =
     (subst (λ (l : List UndoStep). Each (λ o. AreReady o.keys s) l) (sym e) h, subst (λ (o : UndoStep). AreReady o.keys s) (sym f) (λ k g. absurd cc))
 
-module _ (b : Seen) (w : IsOnTheWay b) (none : NothingIsOpen (core_of b)) (i : ℕ) (a : BurstRequest) (pends : slice_get b.places i ≡ Some (pending a)) where
-  whole_is : b.maps ≡ w.fits.whole
-  whole_is = w.fits.maps ∙ cut_none (out b.places) w.fits.whole (out_of_none b.places none)
+-- nothing is out
+pub whole_there : (b : Seen) (w : IsOnTheWay b) → NothingIsOpen (core_of b) → b.maps ≡ w.fits.whole
+whole_there b w none = w.fits.maps ∙ cut_none (out b.places) w.fits.whole (out_of_none b.places none)
+
+-- ---- the place
+
+module _ (profile : Profile) (start : Stored) (maps : Maps) (places : List Place) (g : MayGoOn profile start maps places) (i : ℕ) (a : BurstRequest) (pends : slice_get places i ≡ Some (pending a)) where
+  abbrev b : Seen
+  b = record { profile = profile; start = start; maps = maps; places = places; undo_log = g.undo_log }
+
+  abbrev w : IsOnTheWay b
+  w = g.way
+
+  whole_is : maps ≡ w.fits.whole
+  whole_is = whole_there b w g.none
 
   pub well_here : AreWellFormed b.profile.rules.members b.maps
   well_here = subst (AreWellFormed b.profile.rules.members) (sym whole_is) w.fits.well
@@ -133,24 +144,8 @@ module _ (b : Seen) (w : IsOnTheWay b) (none : NothingIsOpen (core_of b)) (i : �
   abbrev closed : Place
   closed = closed_with a o.answer
 
-  pub alone_none : list_any (λ p. is_open p.standing) (slice_set b.places i closed) ≡ false
-  alone_none = still_none b.places i closed refl none
-
-  pub alone_fewer : suc (unclosed (slice_set b.places i closed)) ≡ unclosed b.places
-  alone_fewer = unclosed-less b.places i (pending a) closed pends refl refl
-
-  pub alone_same : (front : List UndoStep) (last : UndoStep) → IsSameBurst b (with_alone b i a front last)
-  alone_same front last = record { profile = refl; start = refl; requested = requested-set b.places i (pending a) closed pends refl }
-
-  pub alone_kept : (front : List UndoStep) (last : UndoStep) (s t : Stored) → Each (λ o. AreReady o.keys s) front → NoneIsOut t → KeepReady s t → AreReady last.keys t → IsKeptIn t (with_alone b i a front last)
-  alone_kept front last s t kept here ready new = record {
-    out = λ k. here k ∙ ap (λ x. x && names_entry k) (sym (out_of_none (slice_set b.places i closed) alone_none k));
-    ready = each_joined (λ x. AreReady x.keys t) front (last ∷ []) (all_ready front s t ready kept) (new, tt);
-  }
-
-  -- the journal leads from the maps as they are to those of the start
-  pub led_back : undone b.undo_log b.maps ≡ (maps_of b.start)
-  led_back = ap (undone b.undo_log) whole_is ∙ w.back
+  alone_none : list_any (λ p. is_open p.standing) (slice_set b.places i closed) ≡ false
+  alone_none = still_none b.places i closed refl g.none
 
   module _ (first : AllClosed (take i b.places)) where
     pub alone_closed : AllClosed (take (suc i) (slice_set b.places i closed))
@@ -189,30 +184,9 @@ module _ (b : Seen) (w : IsOnTheWay b) (none : NothingIsOpen (core_of b)) (i : �
     none_ended : list_any (λ p. is_open p.standing) ended.places ≡ false
     none_ended = ap (λ (l : List Place). list_any (λ p. is_open p.standing) l) same_places ∙ alone_none
 
-    whole_after : way.fits.whole ≡ o.maps
-    whole_after = sym (cut_none (out ended.places) way.fits.whole (out_of_none ended.places none_ended)) ∙ sym way.fits.maps ∙ same_outcome
-
     is_ended : ended ≡ record { profile = b.profile; start = b.start; maps = o.maps; places = slice_set b.places i closed; undo_log = ended.undo_log }
     is_ended = λ j. record { profile = b.profile; start = b.start; maps = same_outcome j; places = same_places j; undo_log = ended.undo_log }
 
     -- with the place closed the way goes on, by the journal that opening and closing it leaves
-    pub alone_goes_on : MayGoOn b.profile b.start o.maps (slice_set b.places i closed)
+    pub alone_goes_on : MayGoOn profile start o.maps (slice_set b.places i closed)
     alone_goes_on = record { undo_log = ended.undo_log; way = subst IsOnTheWay is_ended way; none = alone_none }
-
-    -- whichever keys changed: the last original leads to maps that those before it lead on from
-    pub alone_way : (front : List UndoStep) (last : UndoStep) (m : Maps) → led_to last o.maps ≡ m → undone front m ≡ (maps_of b.start) → IsOnTheWay (with_alone b i a front last)
-    alone_way front last m is led =
-        let c : Seen = with_alone b i a front last in
-        record {
-          begun = begun_still b w i a c refl refl (requested-set b.places i (pending a) closed pends refl);
-          fits = made_of b.profile (core_of c) way.fits.whole ended.places way.fits.well (sym same_places) (sym same_outcome ∙ way.fits.maps) way.fits.stand;
-          outcome =
-              ap (λ (l : List Place). carried_on b.profile l way.fits.whole) (sym same_places)
-              ∙ way.outcome
-              ∙ ap (λ (l : List Place). carried b.profile (requested_in l) (maps_of b.start)) same_places;
-          back =
-              undone-append front (last ∷ []) way.fits.whole
-              ∙ ap (λ (n : Maps). undone front (led_to last n)) whole_after
-              ∙ ap (undone front) is
-              ∙ led;
-        }

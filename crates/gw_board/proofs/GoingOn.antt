@@ -1,54 +1,66 @@
 -- Places are carried out one after another on a draft of whole tables: nothing is open, and the draft has the maps of a board on its way.
-use Rattle.std.proofs.Common.{◌≡◌, ◌≤◌, ℕ, zero, suc, Bool, true, false, cond, not, List, [], ◌∷◌, ◌++◌, map, take, Some, refl, sym, ap, subst, ◌∙◌, arith}
+use Rattle.std.proofs.Common.{◌≡◌, ◌≤◌, ◌+◌, ℕ, zero, suc, Bool, true, false, cond, not, List, [], ◌∷◌, ◌++◌, map, take, drop, refl, sym, ap, subst, ◌∙◌, arith, add-one}
 use Rattle.std.specs.Prelude.{◌||◌, slice_get}
 use Rattle.std.specs.List.{list_any}
 use Rattle.gw_base.specs.declared.key.Key.{Key}
 use Rattle.gw_base.proofs.Booleans.{neither}
-use Rattle.gw_reserve.specs.Owned.{AreFreeSlots}
 use Rattle.gw_table.specs.Maps.{Maps}
 use Rattle.gw_table.specs.Parts.{Over, Parted}
 use Rattle.gw_table.specs.Stored.{Stored, maps_of}
 use Rattle.gw_table.specs.WellFormed.{AreWellFormed}
 use Rattle.gw_tx.specs.Footprints.{Covers}
 use Rattle.gw_board.specs.declared.profile.Profile.{Profile}
-use Rattle.gw_board.specs.Alone.{is_unclosed_at}
 use Rattle.gw_board.specs.BoardView.{IsOnTheWay}
 use Rattle.gw_board.specs.Boards.{Seen, core_of, is_closed, is_pending_at, AllClosed, unclosed}
 use Rattle.gw_board.specs.Carried.{BurstRequest}
 use Rattle.gw_board.specs.Core.{Standing, Pending, Opened, Closed, Place, pending}
-use Rattle.gw_board.specs.Fitting.{out}
 use Rattle.gw_board.specs.GoingOn.{MayGoOn}
 use Rattle.gw_board.specs.Journal.{UndoStep, led as led_to, undone}
 use Rattle.gw_board.specs.Results.{is_open, NothingIsOpen}
 use Rattle.gw_board.specs.Waves.{is_pending}
-use Rattle.gw_board.proofs.CarriedAlone.{well_here, unused_here}
-use Rattle.gw_board.proofs.Comes.{out_of_none}
-use Rattle.gw_board.proofs.Outs.{cut_none}
+use Rattle.gw_board.proofs.CarriedAlone.{whole_there}
 use Rattle.gw_board.proofs.Steps.{undone-append}
 
 -- ---- how many are not closed
 
--- one of them at least
-pub some_unclosed : (places : List Place) (i : ℕ) → is_unclosed_at (slice_get places i) ≡ true → 1 ≤ unclosed places
-some_unclosed [] i h = absurd cc
-some_unclosed (p ∷ ps) zero h = by (is_closed p.standing) h
+-- as many as behind those that all are
+pub left_behind : (places : List Place) (n : ℕ) → AllClosed (take n places) → unclosed places ≡ unclosed (drop n places)
+left_behind places zero h = refl
+left_behind [] (suc n) h = refl
+left_behind (p ∷ ps) (suc n) h = let both = neither (not (is_closed p.standing)) (list_any (λ q. not (is_closed q.standing)) (take n ps)) h in by (is_closed p.standing) both.0 (left_behind ps n both.1)
   where
-    by : (b : Bool) → not b ≡ true → 1 ≤ cond b (unclosed ps) (suc (unclosed ps))
-    by true e = absurd cc
-    by false e = omega arith
-some_unclosed (p ∷ ps) (suc i) h = by (is_closed p.standing) (some_unclosed ps i h)
-  where
-    by : (b : Bool) → 1 ≤ unclosed ps → 1 ≤ cond b (unclosed ps) (suc (unclosed ps))
-    by true l = l
-    by false l = omega arith
-
-pub none_left : (places : List Place) → AllClosed places → unclosed places ≡ 0
-none_left [] h = refl
-none_left (p ∷ ps) h = let both = neither (not (is_closed p.standing)) (list_any (λ q. not (is_closed q.standing)) ps) h in by (is_closed p.standing) both.0 (none_left ps both.1)
-  where
-    by : (b : Bool) → not b ≡ false → unclosed ps ≡ 0 → cond b (unclosed ps) (suc (unclosed ps)) ≡ 0
+    by : (b : Bool) → not b ≡ false → unclosed ps ≡ unclosed (drop n ps) → cond b (unclosed ps) (suc (unclosed ps)) ≡ unclosed (drop n ps)
     by true e l = l
     by false e l = absurd cc
+
+-- one more than behind the first of them
+pub first_left : (places : List Place) (i : ℕ) → AllClosed (take i places) → is_pending_at (slice_get places i) ≡ true → unclosed (drop (i + 1) places) + 1 ≡ unclosed places
+first_left places i h pends = ap (λ n. unclosed (drop n places) + 1) (add-one i) ∙ add-one (unclosed (drop (suc i) places)) ∙ sym (left_behind places i h ∙ here places i pends)
+  where
+    by : (x : Standing) (n : ℕ) → is_pending x ≡ true → cond (is_closed x) n (suc n) ≡ suc n
+    by Pending n e = refl
+    by (Opened j) n e = refl
+    by (Closed reply) n e = absurd cc
+
+    here : (l : List Place) (k : ℕ) → is_pending_at (slice_get l k) ≡ true → unclosed (drop k l) ≡ suc (unclosed (drop (suc k) l))
+    here [] k e = absurd cc
+    here (q ∷ qs) zero e = by q.standing (unclosed qs) e
+    here (q ∷ qs) (suc k) e = here qs k e
+
+-- no more than behind an earlier place
+pub fewer_behind : (places : List Place) (m n : ℕ) → m ≤ n → unclosed (drop n places) ≤ unclosed (drop m places)
+fewer_behind [] zero zero l = omega arith
+fewer_behind [] zero (suc n) l = omega arith
+fewer_behind [] (suc m) zero l = omega arith
+fewer_behind [] (suc m) (suc n) l = omega arith
+fewer_behind (p ∷ ps) zero zero l = omega arith
+fewer_behind (p ∷ ps) (suc m) zero l = absurd (omega arith)
+fewer_behind (p ∷ ps) zero (suc n) l = by (is_closed p.standing) (fewer_behind ps 0 n (omega arith))
+  where
+    by : (b : Bool) → unclosed (drop n ps) ≤ unclosed ps → unclosed (drop n ps) ≤ cond b (unclosed ps) (suc (unclosed ps))
+    by true e = e
+    by false e = omega arith
+fewer_behind (p ∷ ps) (suc m) (suc n) l = fewer_behind ps m n (omega arith)
 
 -- ---- a draft
 
@@ -79,10 +91,6 @@ pub none_pending : (requested : List BurstRequest) → list_any (λ p. is_open p
 none_pending [] = refl
 none_pending (a ∷ more) = none_pending more
 
--- nothing is out
-pub whole_there : (b : Seen) (w : IsOnTheWay b) → NothingIsOpen (core_of b) → b.maps ≡ w.fits.whole
-whole_there b w none = w.fits.maps ∙ cut_none (out b.places) w.fits.whole (out_of_none b.places none)
-
 -- the journal leads from the maps to those of the start
 pub led_from : (b : Seen) (w : IsOnTheWay b) → NothingIsOpen (core_of b) → undone b.undo_log b.maps ≡ (maps_of b.start)
 led_from b w none = ap (undone b.undo_log) (whole_there b w none) ∙ w.back
@@ -99,13 +107,6 @@ module _ (profile : Profile) (start : Stored) (maps : Maps) (places : List Place
     outcome = g.way.outcome;
     back = ap (undone undo_log) (sym (whole_there b g.way g.none)) ∙ led;
   }
-
-  module _ (i : ℕ) (a : BurstRequest) (pends : slice_get places i ≡ Some (pending a)) where
-    pub well_goes_on : AreWellFormed profile.rules.members maps
-    well_goes_on = well_here b g.way g.none i a pends
-
-    pub unused_goes_on : AreFreeSlots maps a.owned.slots
-    unused_goes_on = unused_here b g.way g.none i a pends
 
 -- the last original leads to maps that those before it lead on from
 pub led_behind : (front : List UndoStep) (last : UndoStep) (m n begun : Maps) → led_to last m ≡ n → undone front n ≡ begun → undone (front ++ last ∷ []) m ≡ begun

@@ -1,5 +1,5 @@
 -- Places that join those that are free, and what is not in a wave.
-use Rattle.std.proofs.Common.{nat_eq, ◌≡◌, ℕ, zero, suc, ◌+◌, ◌<◌, ◌≤◌, Bool, true, false, List, [], ◌∷◌, ◌++◌, length, slice_index_or, take, Option, None, Some, inl, inr, ◌⊎◌, refl, sym, ap, subst, ◌∙◌, arith, eqb-true, eq-eqb}
+use Rattle.std.proofs.Common.{nat_eq, ◌≡◌, ℕ, zero, suc, ◌+◌, ◌<◌, ◌≤◌, Bool, true, false, List, [], ◌∷◌, ◌++◌, length, slice_index_or, take, drop, Option, None, Some, refl, sym, ap, subst, ◌∙◌, arith, add-one, eqb-true, eq-eqb}
 use Rattle.std.specs.Prelude.{◌||◌, slice_get, slice_set, IfSome}
 use Rattle.std.specs.List.{All, list_any}
 use Rattle.std.specs.BinaryHeap.{heap_items}
@@ -10,17 +10,21 @@ use Rattle.std.proofs.lemmas.List.Sorted.{list_any-IsPermutation}
 use Rattle.gw_base.proofs.Booleans.{refuted, neither}
 use Rattle.gw_base.proofs.NamesInLists.{or_left, or_right, or_cases, either}
 use Rattle.gw_table.specs.Maps.{Maps}
-use Rattle.gw_board.specs.Boards.{requested_in, is_pending_at}
-use Rattle.gw_board.specs.Candidates.{is_in, any_pending, places_in, IsListed, AreListed, IsFreeUnless, IsFreeAt, AreFree, AreFreeBut, AreCandidates, AreCandidatesBut}
+use Rattle.gw_board.specs.Alone.{AreSameBeside}
+use Rattle.gw_board.specs.Boards.{requested_in, is_pending_at, AllClosed}
+use Rattle.gw_board.specs.Candidates.{is_in, any_pending, places_in, IsListed, AreListed, IsFreeAt, AreFree, AreFreeBut, AreCandidates, AreCandidatesBut}
 use Rattle.gw_board.specs.Carried.{BurstRequest}
 use Rattle.gw_board.specs.Core.{Place}
 use Rattle.gw_board.specs.Links.{IsLink, AreLinked}
 use Rattle.gw_board.specs.Named.{IsNoneOfWave}
 use Rattle.gw_board.specs.Waves.{is_pending}
 use Rattle.gw_board.specs.declared.candidates.Candidates.{Candidates}
+use Rattle.gw_board.proofs.BoardEntryFacts.{length-requested, pending_inside, place_there}
+use Rattle.gw_board.proofs.CarriedAlone.{closed_there}
 use Rattle.gw_board.proofs.FirstOfWave.{not_free}
 use Rattle.gw_board.proofs.LeftOut.{below}
 use Rattle.gw_board.proofs.Linking.{on_some, link_behind}
+use Rattle.gw_board.proofs.Slices.{only_there}
 
 -- ---- items of lists
 
@@ -185,6 +189,18 @@ candidates_but old new p x c e same n h = record {
   free = subst (λ (l : List Place). AreFreeBut p l c.links.items (heap_items c.free)) (sym e) (free_but old p x c.links.items (heap_items c.free) n h.free);
   ordered = h.ordered;
 }
+
+-- it is the one that was closed
+pub candidates_beside : (old new : List Place) (p end : ℕ) (c : Candidates) → end ≡ p + 1 → is_pending_at (slice_get old p) ≡ true → requested_in new ≡ requested_in old → AreSameBeside p end old new → AllClosed (take end new) → AreCandidates old c → AreCandidatesBut p new c
+candidates_beside old new p end c e pends same beside closed h =
+    let len : length new ≡ length old = sym (length-requested new) ∙ ap length same ∙ length-requested old in
+    let inside = pending_inside old p pends in
+    let was = place_there old p inside in
+    let now = place_there new p (omega (arith, len, inside)) in
+    let next : end ≡ suc p = e ∙ add-one p in
+    candidates_but old new p now.0 c
+    (only_there old new p was.0 now.0 was.1 now.1 beside.front (subst (λ n. drop n new ≡ drop n old) next beside.behind))
+    same (closed_there new p now.0 now.1 (subst (λ n. AllClosed (take n new)) next closed)) h
 
 pub candidates_yet : (old new : List Place) (p : ℕ) (was x : Place) (c : Candidates) → new ≡ slice_set old p x → requested_in new ≡ requested_in old → slice_get old p ≡ Some was → is_pending was.standing ≡ false → is_pending x.standing ≡ false → AreCandidates old c → AreCandidates new c
 candidates_yet old new p was x c e same there off n h = record {

@@ -1,14 +1,10 @@
 //! Executing places one after another, on the tables where they lie.
 
-ghost use Rattle.std.specs.Prelude.{◌≡◌, ◌+◌, ◌<◌, true, false, not, [], length, map, take, drop, vec_len, Decides, IfErr, IfOk, IfSome, IsSomeAnd, IsTrue, OnErr, OnOk, slice_get};
+ghost use Rattle.std.specs.Prelude.{◌≡◌, ◌+◌, ◌<◌, ◌≤◌, ℕ, true, false, not, [], length, map, take, drop, vec_len, Decides, IfSome, IsSomeAnd, IsTrue, OnErr, OnOk, slice_get};
 ghost use Rattle.std.specs.List.{list_any};
-ghost use Rattle.gw_reserve.specs.Owned.{AreFreeSlots};
-ghost use Rattle.gw_table.specs.Maps.{Maps};
-ghost use Rattle.gw_table.specs.UndoLog.{keys_written};
 ghost use Rattle.gw_table.specs.Parts.{Over, start_of};
-ghost use Rattle.gw_table.specs.Stored.{maps_of, AreReady, NoneIsOut, Stored};
-ghost use Rattle.gw_table.specs.WellFormed.{AreWellFormed};
-ghost use Rattle.gw_board.specs.Alone.{FindsFirst, IsWholeTable, WasCarried, AreAsBegun};
+ghost use Rattle.gw_table.specs.Stored.{Stored};
+ghost use Rattle.gw_board.specs.Alone.{AreSameBeside, FindsFirst, IsWholeTable};
 ghost use Rattle.gw_board.specs.GoingOn.{MayGoOn};
 ghost use Rattle.gw_board.specs.Boards.{requested_in, begun_board, core_of, is_closed, is_pending_at, AllClosed, GivesTheFold, unclosed};
 ghost use Rattle.gw_board.specs.OpenJobs.{IsSameBurst};
@@ -21,56 +17,14 @@ use crate::board_entry::{BoardEntry, Stage, all_pending, set_stage};
 use crate::job::carry_on;
 use crate::journal::{last_alone, put_all_back};
 use crate::profile::Profile;
-use crate::requested::{BurstRequest, Task, is_seen_for_all};
+use crate::requested::{Task, is_seen_for_all};
 use crate::undo_step::UndoStep;
 use gw_base::{Items, NoMemory};
-use gw_draw::Gate;
+use gw_draw::{Gate, OpenGate};
 use gw_table::{Draft, Tables, UndoLog};
 use std::alloc::Global;
 use std::mem;
-
-/// What executing a request left.
-#[derive(Drop)]
-struct Left {
-    tables: Tables,
-    undo_log: UndoLog,
-    text: Items<u8>,
-}
-
-/// Executes a request, alone, on the tables where they lie, with the undo log of earlier changes: the tables then,
-/// what stood there before all these changes, and the text of the reply. The caller knows that the tables are
-/// well-formed, that nothing is out, that each key of the undo log has a place, and that the slots that the request
-/// owns are unused.
-///
-/// # Errors
-///
-/// Out of memory. The tables come back as they were before all these changes.
-fn carry_in_place(
-    alloc: Global,
-    profile: &Profile,
-    tables: Tables,
-    earlier: UndoLog,
-    requested: &BurstRequest<'_, '_>,
-) -> Result<Left, Tables>
-    requires whole { AreWellFormed profile.now.rules.members (maps_of tables) }
-    requires here { NoneIsOut tables }
-    requires ready { AreReady (keys_written earlier) tables }
-    requires unused { AreFreeSlots (maps_of tables) requested.now.owned.slots }
-    ensures ok { IfOk result (λ left. WasCarried profile.now requested.now tables earlier left.tables left.undo_log left.text) }
-    ensures err { IfErr result (AreAsBegun tables earlier) }
-{
-    let mut draft = Draft::of_tables(tables, earlier);
-    let mut block = Items::new(alloc);
-    let Ok(text) = carry_on(alloc, profile, requested, &mut draft, &mut block) else {
-        return Err(draft.undone());
-    };
-    let (tables, undo_log) = draft.into_tables();
-    Ok(Left {
-        tables,
-        undo_log,
-        text,
-    })
-}
+use std::ops::Range;
 
 fn is_closed(board_entry: &BoardEntry<'_, '_, '_>) -> bool
     ensures { result ≡ is_closed (standing_of board_entry.now.stage) }
@@ -125,12 +79,12 @@ fn carry_place<G: Gate>(
     block: &mut Items<u8>,
     gate: &G,
 ) -> Result<(), NoMemory>
-    requires inside { place < length board_entries.old.items }
     requires over { draft.old.keys ≡ Over (start_of draft.old.keys) }
     requires goes_on { (start : Stored) × MayGoOn profile.now start draft.old.maps (map place_of board_entries.old.items) }
     requires first { AllClosed (take place (map place_of board_entries.old.items)) }
     ensures goes_on { OnOk result ((start : Stored) → MayGoOn profile.now start draft.old.maps (map place_of board_entries.old.items) → MayGoOn profile.now start draft.new.maps (map place_of board_entries.new.items)) }
     ensures closed { OnOk result (AllClosed (take (place + 1) (map place_of board_entries.new.items))) }
+    ensures beside { (first end : ℕ) → first ≤ place → place < end → OnOk result (AreSameBeside first end (map place_of board_entries.old.items) (map place_of board_entries.new.items)) }
     ensures requested { requested_in (map place_of board_entries.new.items) ≡ requested_in (map place_of board_entries.old.items) }
     ensures len { vec_len board_entries.new ≡ vec_len board_entries.old }
     ensures keys { draft.new.keys ≡ draft.old.keys }
@@ -144,8 +98,9 @@ fn carry_place<G: Gate>(
     Ok(())
 }
 
-/// Executes what is pending, one place after another, on a draft of whole tables. The caller knows that nothing is
-/// open, and that what is pending may be executed from the draft's maps on.
+/// Executes what is pending of a range of places, one after another, on a draft of whole tables. The caller knows that
+/// nothing is open, that all places before the range are closed, and that what is pending may be executed from the
+/// draft's maps on.
 ///
 /// # Errors
 ///
@@ -154,19 +109,23 @@ fn carry_each<G: Gate>(
     alloc: Global,
     profile: &Profile,
     board_entries: &mut Vec<BoardEntry<'_, '_, '_>>,
+    places: Range<usize>,
     draft: &mut Draft,
     gate: &G,
 ) -> Result<(), NoMemory>
+    requires range { places.start ≤ places.end }
     requires over { draft.old.keys ≡ Over (start_of draft.old.keys) }
     requires goes_on { (start : Stored) × MayGoOn profile.now start draft.old.maps (map place_of board_entries.old.items) }
+    requires first { AllClosed (take places.start (map place_of board_entries.old.items)) }
     ensures goes_on { OnOk result ((start : Stored) → MayGoOn profile.now start draft.old.maps (map place_of board_entries.old.items) → MayGoOn profile.now start draft.new.maps (map place_of board_entries.new.items)) }
-    ensures closed { OnOk result (AllClosed (map place_of board_entries.new.items)) }
+    ensures closed { OnOk result (AllClosed (take places.end (map place_of board_entries.new.items))) }
+    ensures beside { OnOk result (AreSameBeside places.start places.end (map place_of board_entries.old.items) (map place_of board_entries.new.items)) }
     ensures requested { requested_in (map place_of board_entries.new.items) ≡ requested_in (map place_of board_entries.old.items) }
     ensures len { vec_len board_entries.new ≡ vec_len board_entries.old }
     ensures keys { draft.new.keys ≡ draft.old.keys }
 {
     let mut block = Items::new(alloc);
-    for place in 0..board_entries.len() {
+    for place in places.start..places.end {
         carry_place(
             alloc,
             profile,
@@ -219,6 +178,56 @@ impl Board<'_, '_, '_> {
         }
     }
 
+    /// Executes what is pending of a range of places, one after another, on the tables where they lie, and closes each
+    /// with its reply: what opening the place, executing its job and closing it with the result come to. The tables are
+    /// moved into a draft once for all, which goes on with the undo log of the places that were executed so last. The
+    /// caller knows that nothing is open, that all earlier places are closed, and that the first of these is pending.
+    ///
+    /// # Errors
+    ///
+    /// Out of memory. The board is as it was when it was made: every place is pending.
+    fn carry_places<G: Gate>(
+        &mut self,
+        alloc: Global,
+        places: Range<usize>,
+        gate: &G,
+    ) -> Result<(), NoMemory>
+        requires open { NothingIsOpen (core_of self.old) }
+        requires first { AllClosed (take places.start self.old.places) }
+        requires pends { is_pending_at (slice_get self.old.places places.start) ≡ true }
+        requires range { places.start < places.end }
+        ensures none { NothingIsOpen (core_of self.new) }
+        ensures closed { OnOk result (AllClosed (take places.end self.new.places)) }
+        ensures left { OnOk result (unclosed self.new.places ≡ unclosed (drop places.end self.old.places)) }
+        ensures same { IsSameBurst self.old self.new }
+        ensures outcome { GivesTheFold self.new }
+        ensures err { OnErr result (self.new ≡ begun_board self.old.profile (requested_in self.old.places) self.old.start) }
+    {
+        let tables = mem::replace(&mut self.tables, Tables::new(alloc));
+        let earlier = last_alone(alloc, &mut self.undo_log);
+        self.sweeps_all = continues(self.sweeps_all, &earlier);
+        let mut draft = Draft::of_tables(tables, earlier);
+        let Ok(()) = carry_each(
+            alloc,
+            &self.profile,
+            &mut self.board_entries,
+            places.start..places.end,
+            &mut draft,
+            gate,
+        ) else {
+            self.tables = draft.undone();
+            self.candidates.forget();
+            put_all_back(&mut self.tables, &mut self.undo_log);
+            all_pending(&mut self.board_entries);
+            return Err(NoMemory);
+        };
+        let (tables, found) = draft.into_tables();
+        self.tables = tables;
+        self.candidates.release_all(&self.board_entries, places);
+        self.undo_log.push_reserved(UndoStep::of_writes(found));
+        Ok(())
+    }
+
     /// Executes the first place that is not closed, on the tables where they lie, and closes it with its reply: what
     /// opening the place, executing its job and closing it with the result come to. No footprint is gathered, and no
     /// entry is taken out: what stood where the commands write goes to the journal, once for each key of the places
@@ -239,28 +248,9 @@ impl Board<'_, '_, '_> {
         ensures outcome { GivesTheFold self.new }
         ensures err { OnErr result (self.new ≡ begun_board self.old.profile (requested_in self.old.places) self.old.start) }
     {
-        let Some(task) = self.pending_task(place) else {
-            unreachable!()
-        };
-        let tables = mem::replace(&mut self.tables, Tables::new(alloc));
-        let earlier = last_alone(alloc, &mut self.undo_log);
-        self.sweeps_all = continues(self.sweeps_all, &earlier);
-        let left = match carry_in_place(alloc, &self.profile, tables, earlier, task.get()) {
-            Ok(left) => left,
-            Err(tables) => {
-                self.tables = tables;
-                self.candidates.forget();
-                put_all_back(&mut self.tables, &mut self.undo_log);
-                all_pending(&mut self.board_entries);
-                return Err(NoMemory);
-            }
-        };
-        self.tables = left.tables;
-        set_stage(&mut self.board_entries, place, Stage::Closed(left.text));
-        self.candidates.release(&self.board_entries, place);
-        self.undo_log
-            .push_reserved(UndoStep::of_writes(left.undo_log));
-        Ok(())
+        // No effect at run time. The proof reads here that there are fewer places than a `usize` can count.
+        let _ = &self.board_entries;
+        self.carry_places(alloc, place..place + 1, &OpenGate)
     }
 
     /// Executes all that is pending, one place after another, as `carry_alone` does each of them; the gate is passed
@@ -278,29 +268,10 @@ impl Board<'_, '_, '_> {
         ensures outcome { GivesTheFold self.new }
         ensures err { OnErr result (self.new ≡ begun_board self.old.profile (requested_in self.old.places) self.old.start) }
     {
-        if self.first_unclosed(0).is_none() {
-            return Ok(());
+        let end = self.board_entries.len();
+        match self.first_unclosed(0) {
+            Some(first) => self.carry_places(alloc, first..end, gate),
+            None => Ok(()),
         }
-        let tables = mem::replace(&mut self.tables, Tables::new(alloc));
-        let earlier = last_alone(alloc, &mut self.undo_log);
-        self.sweeps_all = continues(self.sweeps_all, &earlier);
-        self.candidates.forget();
-        let mut draft = Draft::of_tables(tables, earlier);
-        let Ok(()) = carry_each(
-            alloc,
-            &self.profile,
-            &mut self.board_entries,
-            &mut draft,
-            gate,
-        ) else {
-            self.tables = draft.undone();
-            put_all_back(&mut self.tables, &mut self.undo_log);
-            all_pending(&mut self.board_entries);
-            return Err(NoMemory);
-        };
-        let (tables, found) = draft.into_tables();
-        self.tables = tables;
-        self.undo_log.push_reserved(UndoStep::of_writes(found));
-        Ok(())
     }
 }

@@ -1,6 +1,6 @@
 //! The places that may be in the next wave, as far as links show.
 
-ghost use Rattle.std.specs.Prelude.{◌≡◌, ◌≤◌, ◌<◌, ◌||◌, true, false, ℕ, List, nat_eq, length, map, vec_len, All, IfOk, IfSome, IsTrue, OnOk, slice_get};
+ghost use Rattle.std.specs.Prelude.{◌≡◌, ◌+◌, ◌≤◌, ◌<◌, ◌||◌, true, false, ℕ, List, nat_eq, length, map, vec_len, All, IfOk, IfSome, IsTrue, OnOk, slice_get};
 ghost use Rattle.std.specs.Ordering.{nat_cmp};
 ghost use Rattle.std.specs.BinaryHeap.{heap_items, heap_len, IsHeap};
 ghost use Rattle.gw_table.specs.Maps.{Maps};
@@ -15,6 +15,7 @@ use crate::links::{Links, links_of};
 use gw_base::{NoMemory, Short};
 use std::alloc::Global;
 use std::collections::BinaryHeap;
+use std::ops::Range;
 
 /// The pending places that wait for no other by name. A place joins them once no place that it is linked to is
 /// pending, and nothing but the links of that place is looked at then. Before links are gathered nothing is known.
@@ -207,6 +208,24 @@ impl Candidates {
             self.forget();
             return;
         };
+    }
+
+    /// Places of a range are not pending any more. If it is one, those that waited for it alone join; of more nothing is
+    /// known any more.
+    pub(crate) fn release_all(
+        &mut self,
+        board_entries: &[BoardEntry<'_, '_, '_>],
+        places: Range<usize>,
+    )
+        requires range { places.start < places.end }
+        requires one { places.end ≡ places.start + 1 → AreCandidatesBut places.start (map place_of board_entries.now) self.old }
+        ensures { AreCandidates (map place_of board_entries.now) self.new }
+    {
+        if places.end - places.start == 1 {
+            self.release(board_entries, places.start);
+        } else {
+            self.forget();
+        }
     }
 
     /// Drops the last candidates that are not pending any more.

@@ -1,6 +1,7 @@
-use Rattle.std.proofs.Common.{◌≡◌, map, take}
+use Rattle.std.proofs.Common.{◌≡◌, ◌≤◌, map, take}
 use Rattle.std.specs.Prelude.{vec_len}
 use Rattle.gw_table.specs.Stored.{Stored}
+use Rattle.gw_board.specs.Alone.{AreSameBeside}
 use Rattle.gw_board.specs.Boards.{requested_in, AllClosed}
 use Rattle.gw_board.specs.GoingOn.{MayGoOn}
 use Rattle.gw_board.specs.BoardEntries.{place_of}
@@ -9,9 +10,11 @@ use Rattle.gw_board.proofs.alone.carry_each.Given as goal
 -- the places so far are closed, and the rest may be carried out from the draft's maps on
 abbrev pub invariant-loop-place : goal.invariant-loop-place
 invariant-loop-place g l = record {
+  from : l.fn.places.start ≤ l.place;
   over : l.draft.keys ≡ l.fn.draft.keys;
   goes_on : (start : Stored) → MayGoOn l.profile start l.fn.draft.maps (map place_of l.fn.board_entries.items) → MayGoOn l.profile start l.draft.maps (map place_of l.board_entries.items);
   closed : AllClosed (take l.place (map place_of l.board_entries.items));
+  beside : AreSameBeside l.fn.places.start l.fn.places.end (map place_of l.fn.board_entries.items) (map place_of l.board_entries.items);
   requested : requested_in (map place_of l.board_entries.items) ≡ requested_in (map place_of l.fn.board_entries.items);
   len : vec_len l.board_entries ≡ vec_len l.fn.board_entries;
 }

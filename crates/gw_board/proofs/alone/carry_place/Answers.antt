@@ -1,11 +1,12 @@
-use Rattle.std.proofs.Common.{◌≡◌, ℕ, suc, false, List, map, take, Option, Some, refl, sym, ap, subst, ◌∙◌, add-one}
+use Rattle.std.proofs.Common.{◌≡◌, ℕ, suc, false, List, map, take, drop, Option, Some, refl, sym, ap, subst, ◌∙◌, add-one}
+use Rattle.std.proofs.lemmas.List.{take-set-le, drop-set-lt}
 use Rattle.std.specs.Prelude.{slice_get, slice_set}
 use Rattle.gw_reserve.specs.Owned.{AreFreeSlots}
 use Rattle.gw_table.specs.Maps.{Maps}
 use Rattle.gw_table.specs.Parts.{start_of}
 use Rattle.gw_table.specs.Stored.{Stored}
 use Rattle.gw_board.specs.declared.profile.Profile.{Profile}
-use Rattle.gw_board.specs.Boards.{Seen, requested_in, is_pending_at, AllClosed}
+use Rattle.gw_board.specs.Boards.{requested_in, is_pending_at, AllClosed}
 use Rattle.gw_board.specs.Carried.{BurstRequest, done}
 use Rattle.gw_board.specs.Core.{Place, Closed, closed_with, pending}
 use Rattle.gw_board.specs.GoingOn.{MayGoOn}
@@ -13,8 +14,9 @@ use Rattle.gw_board.specs.Met.{PendsAt}
 use Rattle.gw_board.specs.BoardEntries.{place_of}
 use Rattle.gw_board.specs.Texts.{Text}
 use Rattle.gw_board.specs.declared.board_entry.BoardEntry.{BoardEntry}
-use Rattle.gw_board.proofs.CarriedAlone.{alone_closed, alone_goes_on}
-use Rattle.gw_board.proofs.GoingOn.{covers_over, passed_closed, unused_goes_on, well_goes_on}
+use Rattle.gw_board.proofs.BoardEntryFacts.{seat_inside}
+use Rattle.gw_board.proofs.CarriedAlone.{alone_closed, alone_goes_on, unused_here, well_here}
+use Rattle.gw_board.proofs.GoingOn.{covers_over, passed_closed}
 use Rattle.gw_board.proofs.OnTheWay.{requested-set}
 use Rattle.gw_board.proofs.alone.carry_place.Goals as goal
 use Rattle.gw_board.proofs.alone.carry_place.Goals.{After-set_stage}
@@ -27,13 +29,16 @@ pub carry_on-requires-clause-covered : goal.carry_on-requires-clause-covered
 carry_on-requires-clause-covered g c =
     let h = c.requires.goes_on in
     covers_over c.args.profile.now.rules.members c.args.draft.now (start_of c.args.draft.now.keys) c.requires.over
-    (well_goes_on c.args.profile.now h.0 c.args.draft.now.maps (map place_of c.args.board_entries.now.items) h.1 c.args.place c.in-Some.task (pends_there c.args.board_entries.now.items c.deref.result.now c.args.place c.in-Some.task c.deref.ensures.value c.in-Some.ensures)) _
+    (well_here c.args.profile.now h.0 c.args.draft.now.maps (map place_of c.args.board_entries.now.items) h.1 c.args.place c.in-Some.task (pends_there c.args.board_entries.now.items c.deref.result.now c.args.place c.in-Some.task c.deref.ensures.value c.in-Some.ensures)) _
 
 pub carry_on-requires-clause-unused : goal.carry_on-requires-clause-unused
 carry_on-requires-clause-unused g c =
     let h = c.requires.goes_on in
     subst (λ (x : BurstRequest). AreFreeSlots c.args.draft.now.maps x.owned.slots) (sym c.get.ensures)
-    (unused_goes_on c.args.profile.now h.0 c.args.draft.now.maps (map place_of c.args.board_entries.now.items) h.1 c.args.place c.in-Some.task (pends_there c.args.board_entries.now.items c.deref.result.now c.args.place c.in-Some.task c.deref.ensures.value c.in-Some.ensures))
+    (unused_here c.args.profile.now h.0 c.args.draft.now.maps (map place_of c.args.board_entries.now.items) h.1 c.args.place c.in-Some.task (pends_there c.args.board_entries.now.items c.deref.result.now c.args.place c.in-Some.task c.deref.ensures.value c.in-Some.ensures))
+
+pub set_stage-requires : goal.set_stage-requires
+set_stage-requires g c = seat_inside c.args.board_entries.now.items c.args.place (pending c.in-Some.task) (pends_there c.args.board_entries.now.items c.deref.result.now c.args.place c.in-Some.task c.deref.ensures.value c.in-Some.ensures)
 
 module _ (g : Over) (c : After-set_stage g) where
   abbrev profile : Profile
@@ -67,9 +72,8 @@ module _ (g : Over) (c : After-set_stage g) where
 
   goes_on : (start : Stored) → MayGoOn profile start maps places → MayGoOn profile start c.carry_on.new.draft.maps (map place_of c.set_stage.new.board_entries.items)
   goes_on start h =
-      let b : Seen = record { profile = profile; start = start; maps = maps; places = places; undo_log = h.undo_log } in
       subst (λ (m : Maps). MayGoOn profile start m (map place_of c.set_stage.new.board_entries.items)) (sym maps_are)
-      (subst (λ (l : List Place). MayGoOn profile start (done profile a maps).maps l) (sym places_are) (alone_goes_on b h.way h.none i a pends c.requires.first))
+      (subst (λ (l : List Place). MayGoOn profile start (done profile a maps).maps l) (sym places_are) (alone_goes_on profile start maps places h i a pends c.requires.first))
 
 pub returns-clause-goes_on : goal.returns-clause-goes_on
 returns-clause-goes_on g c = goes_on g c
@@ -77,9 +81,14 @@ returns-clause-goes_on g c = goes_on g c
 pub returns-clause-closed : goal.returns-clause-closed
 returns-clause-closed g c =
     let h = c.requires.goes_on in
-    let b : Seen = record { profile = profile g c; start = h.0; maps = maps g c; places = places g c; undo_log = h.1.undo_log } in
     subst (λ (n : ℕ). AllClosed (take n (map place_of c.set_stage.new.board_entries.items))) (sym (add-one (i g c)))
-    (subst (λ (l : List Place). AllClosed (take (suc (i g c)) l)) (sym (places_are g c)) (alone_closed b h.1.way h.1.none (i g c) (a g c) (pends g c) c.requires.first))
+    (subst (λ (l : List Place). AllClosed (take (suc (i g c)) l)) (sym (places_are g c)) (alone_closed (profile g c) h.0 (maps g c) (places g c) h.1 (i g c) (a g c) (pends g c) c.requires.first))
+
+pub returns-clause-beside : goal.returns-clause-beside
+returns-clause-beside g c first end low high = record {
+  front = ap (take first) (places_are g c) ∙ take-set-le first (places g c) (i g c) (closed g c) low;
+  behind = ap (drop end) (places_are g c) ∙ drop-set-lt end (places g c) (i g c) (closed g c) high;
+}
 
 pub returns-clause-requested : goal.returns-clause-requested
 returns-clause-requested g c = ap requested_in (places_are g c) ∙ requested-set (places g c) (i g c) (pending (a g c)) (closed g c) (pends g c) refl

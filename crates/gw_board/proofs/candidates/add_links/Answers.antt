@@ -1,5 +1,4 @@
-use Rattle.std.proofs.Common.{ℕ, ◌<◌, List, length, take, slice_index_or, sym, subst, ◌∙◌}
-use Rattle.std.specs.List.{All}
+use Rattle.std.proofs.Common.{ℕ, ◌<◌, List, length, take, slice_index_or, subst, ◌∙◌}
 use Rattle.std.proofs.lemmas.List.Elements.{All-more, All-weaker}
 use Rattle.gw_board.specs.Candidates.{IsListed}
 use Rattle.gw_board.proofs.candidates.add_links.Goals as goal

@@ -1,7 +1,6 @@
-use Rattle.std.proofs.Common.{◌-◌, ◌≤◌, ℕ, suc, map, subst, arith}
+use Rattle.std.proofs.Common.{◌-◌, map, arith}
 use Rattle.std.specs.BinaryHeap.{heap_items}
 use Rattle.gw_board.specs.BoardEntries.{place_of}
-use Rattle.gw_board.specs.Candidates.{IsFreeAt}
 use Rattle.gw_board.proofs.Joining.{free_more, past_end}
 use Rattle.gw_board.proofs.candidates.free_of.Goals as goal
 

@@ -1,7 +1,7 @@
 use Rattle.std.proofs.Common.{map}
 use Rattle.std.specs.BinaryHeap.{heap_items}
 use Rattle.gw_board.specs.BoardEntries.{place_of}
-use Rattle.gw_board.proofs.Joining.{free_in, got, in_pushed, past_end, pushed_in, waits_at}
+use Rattle.gw_board.proofs.Joining.{free_in, got, in_pushed, pushed_in, waits_at}
 use Rattle.gw_board.proofs.candidates.join.Goals as goal
 
 pub returns-then-wait-clause-joined : goal.returns-then-wait-clause-joined

@@ -2,11 +2,10 @@ use Rattle.std.proofs.Common.{◌≡◌, ℕ, suc, List, ◌∷◌, ◌++◌, []
 use Rattle.std.specs.Prelude.{slice_get, slice_set}
 use Rattle.gw_table.specs.Parts.{Parted, list_of, overlaid}
 use Rattle.gw_table.specs.Stored.{maps_of, AreOut, CameBack}
-use Rattle.gw_board.specs.Carried.{BurstRequest}
 use Rattle.gw_board.specs.Core.{Place}
 use Rattle.gw_board.proofs.Joining.{candidates_yet}
 use Rattle.gw_board.specs.BoardView.{value_of, IsOnTheWay, IsKeptIn, NoneIsSpare}
-use Rattle.gw_board.specs.Boards.{Seen, Handed, requested_in, HasOpen, job_of, undo_step_in, outcome_of, with_result, unclosed}
+use Rattle.gw_board.specs.Boards.{Seen, Handed, HasOpen, job_of, undo_step_in, outcome_of, with_result, unclosed}
 use Rattle.gw_board.specs.Core.{Place, Closed, open_with}
 use Rattle.gw_board.specs.Journal.{UndoStep}
 use Rattle.gw_board.specs.BoardEntries.{place_of}

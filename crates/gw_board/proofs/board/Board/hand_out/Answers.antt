@@ -1,4 +1,4 @@
-use Rattle.std.proofs.Common.{◌≡◌, ℕ, List, map, None, Some, refl, sym, ap, subst, ◌∙◌, arith}
+use Rattle.std.proofs.Common.{◌≡◌, ℕ, List, map, None, refl, sym, ap, subst, ◌∙◌, arith}
 use Rattle.std.specs.Prelude.{◌||◌, ◌&&◌, slice_get, slice_set}
 use Rattle.gw_base.specs.Keys.{has}
 use Rattle.gw_base.specs.declared.key.Key.{Key}
@@ -9,7 +9,7 @@ use Rattle.gw_board.specs.Candidates.{AreCandidates, AreCandidatesBut}
 use Rattle.gw_board.specs.declared.board_entry.BoardEntry.{BoardEntry}
 use Rattle.gw_board.proofs.Joining.{candidates_but}
 use Rattle.gw_board.specs.BoardView.{value_of, IsOnTheWay, IsKeptIn, NoneIsSpare}
-use Rattle.gw_board.specs.Boards.{Seen, Handed, requested_in, core_of, Opens, with_open, unclosed}
+use Rattle.gw_board.specs.Boards.{Seen, Handed, core_of, Opens, with_open, unclosed}
 use Rattle.gw_board.specs.Carried.{BurstRequest}
 use Rattle.gw_board.specs.Core.{Opened, Place, pending, open_with, MayOpen}
 use Rattle.gw_board.specs.Jobs.{IsJob}

@@ -1,8 +1,7 @@
 use Rattle.std.proofs.Common.{◌≡◌, map, length, sym, ap, subst, ◌∙◌, arith}
 use Rattle.gw_table.specs.Stored.{maps_of}
 use Rattle.gw_board.specs.BoardView.{IsOnTheWay, IsKeptIn}
-use Rattle.gw_board.specs.Boards.{requested_in, begun_board, GivesTheFold, unclosed}
-use Rattle.gw_board.specs.Links.{AreLinked}
+use Rattle.gw_board.specs.Boards.{begun_board, GivesTheFold, unclosed}
 use Rattle.gw_board.specs.BoardEntries.{place_of}
 use Rattle.gw_board.proofs.KeptIn.{begun_kept}
 use Rattle.gw_board.proofs.OnTheWay.{begun_way, gives_the_fold}

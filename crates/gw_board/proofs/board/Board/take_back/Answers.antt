@@ -3,7 +3,7 @@ use Rattle.std.specs.Prelude.{slice_get, slice_set}
 use Rattle.gw_table.specs.Parts.{overlaid}
 use Rattle.gw_table.specs.Stored.{maps_of, AreOut, CameBack}
 use Rattle.gw_board.specs.BoardView.{value_of, IsOnTheWay, IsKeptIn}
-use Rattle.gw_board.specs.Boards.{Seen, Handed, requested_in, HasOpen, job_of, unchanged, unclosed}
+use Rattle.gw_board.specs.Boards.{Seen, Handed, HasOpen, job_of, unchanged, unclosed}
 use Rattle.gw_board.specs.Core.{Pending, open_with}
 use Rattle.gw_board.specs.BoardEntries.{place_of}
 use Rattle.gw_board.proofs.Ends.{as_many_unclosed}

@@ -1,4 +1,4 @@
-use Rattle.std.proofs.Common.{◌≡◌, ◌≤◌, ◌<◌, ℕ, List, map, length, sym, ap, arith}
+use Rattle.std.proofs.Common.{◌≡◌, ℕ, List, map, length, ap, arith}
 use Rattle.std.specs.BinaryHeap.{heap_items}
 use Rattle.std.proofs.lemmas.List.Sorted.{le_from_greatest}
 use Rattle.gw_board.specs.BoardEntries.{place_of}

@@ -1,4 +1,4 @@
-use Rattle.std.proofs.Common.{◌≡◌, ℕ, true, List, map, sym, ap, subst, ◌∙◌}
+use Rattle.std.proofs.Common.{ℕ, List, map, ap, subst, ◌∙◌}
 use Rattle.std.specs.Prelude.{slice_get}
 use Rattle.std.specs.BinaryHeap.{heap_items}
 use Rattle.gw_board.specs.BoardEntries.{place_of}
