@@ -12,12 +12,13 @@ use Rattle.gw_base.specs.NameLists.{name_cmp}
 use Rattle.gw_base.proofs.NameTests.{same_name, same_number}
 use Rattle.gw_table.specs.declared.place.Place.{Place}
 use Rattle.gw_table.specs.declared.place.Place.TheVariants.{Out}
+use Rattle.gw_table.specs.Cells.{or_empty, cell_from, with_cell}
 use Rattle.gw_table.specs.Maps.{term, ctx, no_maps}
 use Rattle.gw_table.specs.Parts.{restricted, cut, overlaid}
-use Rattle.gw_table.specs.Stored.{Stored, visible, has_left, or_empty, maps_of, is_ready, is_out, names_entry, with_out, with_place_of, AreMoved, AreReady, AreIn, AreOut, AreAsReady, AreAsOut, NoneIsOut, WentOut, CameBack, ArePacked, AreBlank}
+use Rattle.gw_table.specs.Stored.{Stored, visible, has_left, maps_of, is_ready, is_out, names_entry, with_out, AreMoved, AreReady, AreIn, AreOut, AreAsReady, AreAsOut, NoneIsOut, WentOut, CameBack, nothing_stored}
 use Rattle.gw_table.proofs.Lookups.{same_maps}
 use Rattle.gw_table.proofs.PartLookups.{term-restricted, ctx-restricted, term-cut, ctx-cut, term-overlaid, ctx-overlaid}
-use Rattle.gw_table.proofs.Places.{term-maps_of, ctx-maps_of, got_term, got_ctx}
+use Rattle.gw_table.proofs.Places.{term-maps_of, ctx-maps_of, got_term, got_ctx, maps_of_nothing, nothing_out}
 
 or_nothing : (b : Bool) → (b || false) ≡ b
 or_nothing true = refl
@@ -56,13 +57,13 @@ full_more from to left own true true q t is e new there was = absurd (let clash 
 full_more from to left own true false q t is e new there was = filled_in (left t) there ∙ was ∙ ap (λ d. cond d (Some Out) (from t)) new ∙ ap from (sym (is refl))
 full_more from to left own false h q t is e new there was = same_at h (from q) (to q)
 
-pub moved_more : (keys : List Key) (k : Key) (from to left full after behind : Stored) → has keys k ≡ false → is_ready left k ≡ true → after ≡ with_out left k → behind ≡ with_place_of left k full → AreMoved keys from to left full → AreMoved (keys ++ k ∷ []) from to after behind
+pub moved_more : (keys : List Key) (k : Key) (from to left full after behind : Stored) → has keys k ≡ false → is_ready left k ≡ true → after ≡ with_out left k → behind ≡ with_cell k (cell_from left k) full → AreMoved keys from to left full → AreMoved (keys ++ k ∷ []) from to after behind
 moved_more keys k from to left full after behind new there e f m = subst (λ (a : Stored). AreMoved (keys ++ k ∷ []) from to a behind) (sym e) (subst (λ (b : Stored). AreMoved (keys ++ k ∷ []) from to (with_out left k) b) (sym f) (by k new there))
   where
     wider : {A : Type 0} (k x : Key) (y z : A) → cond (has keys x || same_key x k) y z ≡ cond (has (keys ++ k ∷ []) x) y z
     wider k x y z = ap (λ b. cond b y z) (sym (has-pushed keys k x))
 
-    by : (k : Key) → has keys k ≡ false → is_ready left k ≡ true → AreMoved (keys ++ k ∷ []) from to (with_out left k) (with_place_of left k full)
+    by : (k : Key) → has keys k ≡ false → is_ready left k ≡ true → AreMoved (keys ++ k ∷ []) from to (with_out left k) (with_cell k (cell_from left k) full)
     by (Term t) new there = record {
       terms_left = λ q. got_term left t Out q ∙ ap (cond (bytes_eq q t) (Some Out)) (m.terms_left q) ∙ left_more (bytes_eq q t) (has keys (Term q)) (Some Out) (finite.get from.terms q) ∙ wider (Term t) (Term q) (Some Out) (finite.get from.terms q);
       terms_full = λ q. got_term full t (or_empty (finite.get left.terms t)) q ∙ ap (cond (bytes_eq q t) (Some (or_empty (finite.get left.terms t)))) (m.terms_full q)
@@ -164,27 +165,17 @@ module _ (keys : List Key) (from to left full : Stored) (m : AreMoved keys from 
       (λ t. term-maps_of full t ∙ ap (λ o. visible o) (m.terms_full t) ∙ either_entry (has keys (Term t)) (finite.get from.terms t) (finite.get to.terms t) ∙ sym (λ i. cond (has keys (Term t)) (term-maps_of from t i) (term-maps_of to t i)) ∙ sym (term-overlaid keys (maps_of from) (maps_of to) t))
       (λ n. ctx-maps_of full n ∙ ap (λ o. visible o) (m.contexts_full n) ∙ either_entry (has keys (Ctx n)) (finite.get from.contexts n.0) (finite.get to.contexts n.0) ∙ sym (λ i. cond (has keys (Ctx n)) (ctx-maps_of from n i) (ctx-maps_of to n i)) ∙ sym (ctx-overlaid keys (maps_of from) (maps_of to) n))
 
-  -- what came to empty places is all that is there
-  pub maps_part : maps_of to ≡ no_maps → maps_of full ≡ restricted keys (maps_of from)
-  maps_part none = same_maps (maps_of full) (restricted keys (maps_of from))
-      (λ t. term-maps_of full t ∙ ap (λ o. visible o) (m.terms_full t) ∙ either_entry (has keys (Term t)) (finite.get from.terms t) (finite.get to.terms t)
-      ∙ sym (λ i. cond (has keys (Term t)) (term-maps_of from t i) (term-maps_of to t i)) ∙ ap (cond (has keys (Term t)) (term (maps_of from) t)) (ap (λ x. term x t) none ∙ get-empty name_cmp t) ∙ sym (term-restricted keys (maps_of from) t))
-      (λ n. ctx-maps_of full n ∙ ap (λ o. visible o) (m.contexts_full n) ∙ either_entry (has keys (Ctx n)) (finite.get from.contexts n.0) (finite.get to.contexts n.0)
-      ∙ sym (λ i. cond (has keys (Ctx n)) (ctx-maps_of from n i) (ctx-maps_of to n i)) ∙ ap (cond (has keys (Ctx n)) (ctx (maps_of from) n)) (ap (λ x. ctx x n) none ∙ get-empty nat_cmp n.0) ∙ sym (ctx-restricted keys (maps_of from) n))
+-- ---- a part: what was moved to where there was nothing
 
-  -- ---- a part
+module _ (keys : List Key) (from left full : Stored) (m : AreMoved keys from nothing_stored left full) where
+  pub maps_part : maps_of full ≡ restricted keys (maps_of from)
+  maps_part = maps_full keys from nothing_stored left full m ∙ ap (overlaid keys (maps_of from)) maps_of_nothing
+      ∙ same_maps (overlaid keys (maps_of from) no_maps) (restricted keys (maps_of from))
+      (λ t. term-overlaid keys (maps_of from) no_maps t ∙ ap (cond (has keys (Term t)) (term (maps_of from) t)) (get-empty name_cmp t) ∙ sym (term-restricted keys (maps_of from) t))
+      (λ n. ctx-overlaid keys (maps_of from) no_maps n ∙ ap (cond (has keys (Ctx n)) (ctx (maps_of from) n)) (get-empty nat_cmp n.0) ∙ sym (ctx-restricted keys (maps_of from) n))
 
-  pub blank_ready : AreBlank keys to → AreReady keys to
-  blank_ready b (Term t) h = b.packed.terms t ∙ h
-  blank_ready b (Ctx n) h = b.packed.contexts n ∙ h
-  blank_ready b Whole h = refl
-
-  pub packed_full : AreReady keys from → AreIn keys from → AreBlank keys to → ArePacked keys full
-  packed_full r h b = record {
-    terms = λ t. ready_full r (blank_ready b) (Term t) ∙ b.packed.terms t;
-    contexts = λ n. ready_full r (blank_ready b) (Ctx n) ∙ b.packed.contexts n;
-    here = λ k. came_back h k ∙ ap (λ x. x && not (has keys k)) (b.packed.here k);
-  }
+  pub none_out : AreIn keys from → NoneIsOut full
+  none_out h k = came_back keys from nothing_stored left full m h k ∙ ap (λ x. x && not (has keys k)) (nothing_out k)
 
 -- a list in which no key stands twice says which were not out before
 pub back_in : (keys : List Key) (a b : Stored) → AreIn keys a → CameBack keys a b → AreAsOut a b

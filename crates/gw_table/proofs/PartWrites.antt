@@ -1,10 +1,9 @@
 -- What is set at a key of a part: what stood there, and the part after it.
-use Rattle.std.proofs.Common.{◌≡◌, ℕ, true, false, List, length, get_or, set, take, map, Option, None, Some, refl, subst, sym, ap, ◌∙◌}
+use Rattle.std.proofs.Common.{◌≡◌, ℕ, List, length, get_or, set, map, Option, None, Some, refl, subst, sym, ap, ◌∙◌}
 use Rattle.std.proofs.lemmas.List.{length-set}
 use Rattle.gw_base.specs.declared.ids.CtxNum.{CtxNum}
 use Rattle.gw_base.specs.declared.key.Key.{Key}
 use Rattle.gw_base.specs.declared.key.Key.TheVariants.{Term, Ctx}
-use Rattle.gw_base.specs.Keys.{has}
 use Rattle.gw_term.specs.declared.record.Termination.{Termination}
 use Rattle.gw_ctx.specs.Contexts.{ContextRecord, left}
 use Rattle.gw_table.specs.declared.cell.Cell.{Cell}
@@ -16,72 +15,50 @@ use Rattle.gw_table.specs.KeyLists.{IsInOrder}
 use Rattle.gw_table.specs.Maps.{Maps, number, term, ctx, put_term, put_ctx, names, numbers, context_of}
 use Rattle.gw_table.specs.Members.{unless_empty}
 use Rattle.gw_table.specs.Parts.{Parted, Only, IsPart}
-use Rattle.gw_table.specs.Stored.{Stored, visible, has_left, placed, maps_of, put_term_place, put_ctx_place, ArePacked}
-use Rattle.gw_table.proofs.Celled.{term_here, ctx_here, set_cell, packed_part}
+use Rattle.gw_table.specs.Stored.{Stored, visible, placed, maps_of, put_term_place, put_ctx_place, NoneIsOut, ArePacked}
+use Rattle.gw_table.proofs.Celled.{term_here, ctx_here, packed, set_cell, packed_part}
 use Rattle.gw_table.proofs.Lookups.{put_ctx-put_ctx}
 use Rattle.gw_table.proofs.Picked.{name_in, number_in, has_name, has_number, picked, names_picked, numbers_picked}
-use Rattle.gw_table.proofs.Places.{term-maps_of, ctx-maps_of, maps-put_term_place, maps-put_ctx_place, ready-put_term, ready-put_ctx, in-put_term, in-put_ctx, shown_placed, placed_here}
-use Rattle.gw_table.proofs.Prepared.{not_before, has_at}
+use Rattle.gw_table.proofs.Places.{term-maps_of, ctx-maps_of, maps-put_term_place, maps-put_ctx_place, in-put_term, in-put_ctx, shown_placed, placed_here}
 
 -- what a part keeps to: its keys are in order, with a place for each and no other, and nothing is out
 abbrev pub IsFilled : List Key → List Cell → Type 0
 IsFilled keys cells = IsInOrder keys × (length cells ≡ length keys) × ArePacked keys (celled keys cells)
-
-packed_term : (keys : List Key) (s : Stored) (t : List ℕ) (p : Place Termination) → has_left (Some p) ≡ false → has keys (Term t) ≡ true → ArePacked keys s → ArePacked keys (put_term_place s t p)
-packed_term keys s t p g held a = record {
-  terms = λ q. ready-put_term s t p (Term q) (a.terms t ∙ held) ∙ a.terms q;
-  contexts = λ n. a.contexts n;
-  here = in-put_term s t p g a.here;
-}
-
-packed_ctx : (keys : List Key) (s : Stored) (n : CtxNum) (p : Place ContextRecord) → has_left (Some p) ≡ false → has keys (Ctx n) ≡ true → ArePacked keys s → ArePacked keys (put_ctx_place s n p)
-packed_ctx keys s n p g held a = record {
-  terms = λ t. a.terms t;
-  contexts = λ q. ready-put_ctx s n p (Ctx q) (a.contexts n ∙ held) ∙ a.contexts q;
-  here = in-put_ctx s n p g a.here;
-}
 
 -- ---- where a key stands
 
 pub found_at : (l keys : List Key) (k : Key) (o : Option ℕ) (i : ℕ) → l ≡ keys → o ≡ Some i → IsFound l k o → IsFound keys k (Some i)
 found_at l keys k o i same is found = subst (λ (x : List Key). IsFound x k (Some i)) same (subst (λ (x : Option ℕ). IsFound l k x) is found)
 
-module _ (keys : List Key) (i : ℕ) (k : Key) (order : IsInOrder keys) (found : IsFound keys k (Some i)) where
-  first : has (take i keys) k ≡ false
-  first = ap (λ x. has (take i keys) x) (sym found.1) ∙ not_before keys i k found.0 order
-
-  held : has keys k ≡ true
-  held = ap (λ x. has keys x) (sym found.1) ∙ has_at keys i k found.0
-
 module _ (keys : List Key) (cells : List Cell) (i : ℕ) (f : IsFilled keys cells) where
   pub stood_term : (t : List ℕ) (e : Cell) → IsFound keys (Term t) (Some i) → visible (Some (cell_term (get_or cells i e))) ≡ term (maps_of (celled keys cells)) t
   stood_term t e found =
-      ap (λ o. visible o) (sym (term_here keys cells i t (Term t) e f.1 found.0 (first keys i (Term t) f.0 found) found.1)) ∙ sym (term-maps_of (celled keys cells) t)
+      ap (λ o. visible o) (sym (term_here keys cells i f.0 f.1 t e found)) ∙ sym (term-maps_of (celled keys cells) t)
 
   pub stood_ctx : (n : CtxNum) (e : Cell) → IsFound keys (Ctx n) (Some i) → visible (Some (cell_ctx (get_or cells i e))) ≡ ctx (maps_of (celled keys cells)) n
   stood_ctx n e found =
-      ap (λ o. visible o) (sym (ctx_here keys cells i n (Ctx n) e f.1 found.0 (first keys i (Ctx n) f.0 found) found.1)) ∙ sym (ctx-maps_of (celled keys cells) n)
+      ap (λ o. visible o) (sym (ctx_here keys cells i f.0 f.1 n e found)) ∙ sym (ctx-maps_of (celled keys cells) n)
 
   -- ---- what is set there
 
   wrote_term : (t : List ℕ) (p : Place Termination) → IsFound keys (Term t) (Some i) → celled keys (set cells i (OfTerm p)) ≡ put_term_place (celled keys cells) t p
-  wrote_term t p found = set_cell keys cells i (Term t) (OfTerm p) f.1 found.0 (Term t) (first keys i (Term t) f.0 found) found.1
+  wrote_term t p found = set_cell keys cells i f.0 f.1 (Term t) (OfTerm p) found
 
   wrote_ctx : (n : CtxNum) (p : Place ContextRecord) → IsFound keys (Ctx n) (Some i) → celled keys (set cells i (OfCtx p)) ≡ put_ctx_place (celled keys cells) n p
-  wrote_ctx n p found = set_cell keys cells i (Ctx n) (OfCtx p) f.1 found.0 (Ctx n) (first keys i (Ctx n) f.0 found) found.1
+  wrote_ctx n p found = set_cell keys cells i f.0 f.1 (Ctx n) (OfCtx p) found
 
   pub term_set : (t : List ℕ) (o : Option Termination) (x : Cell) → x ≡ OfTerm (placed o) → IsFound keys (Term t) (Some i) → IsFilled keys (set cells i x)
   term_set t o x is found = subst (λ (y : Cell). IsFilled keys (set cells i y)) (sym is) (
     f.0,
     length-set cells i (OfTerm (placed o)) ∙ f.1,
-    subst (λ (s : Stored). ArePacked keys s) (sym (wrote_term t (placed o) found)) (packed_term keys (celled keys cells) t (placed o) (placed_here o) (held keys i (Term t) f.0 found) f.2),
+    packed keys (set cells i (OfTerm (placed o))) (length-set cells i (OfTerm (placed o)) ∙ f.1) (subst NoneIsOut (sym (wrote_term t (placed o) found)) (in-put_term (celled keys cells) t (placed o) (placed_here o) f.2.here)),
   )
 
   pub ctx_set : (n : CtxNum) (o : Option ContextRecord) (x : Cell) → x ≡ OfCtx (placed o) → IsFound keys (Ctx n) (Some i) → IsFilled keys (set cells i x)
   ctx_set n o x is found = subst (λ (y : Cell). IsFilled keys (set cells i y)) (sym is) (
     f.0,
     length-set cells i (OfCtx (placed o)) ∙ f.1,
-    subst (λ (s : Stored). ArePacked keys s) (sym (wrote_ctx n (placed o) found)) (packed_ctx keys (celled keys cells) n (placed o) (placed_here o) (held keys i (Ctx n) f.0 found) f.2),
+    packed keys (set cells i (OfCtx (placed o))) (length-set cells i (OfCtx (placed o)) ∙ f.1) (subst NoneIsOut (sym (wrote_ctx n (placed o) found)) (in-put_ctx (celled keys cells) n (placed o) (placed_here o) f.2.here)),
   )
 
   pub maps_term_set : (t : List ℕ) (o : Option Termination) (x : Cell) → x ≡ OfTerm (placed o) → IsFound keys (Term t) (Some i) → maps_of (celled keys (set cells i x)) ≡ put_term (maps_of (celled keys cells)) t o

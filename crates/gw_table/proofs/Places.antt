@@ -1,9 +1,9 @@
 -- Look-ups in the maps that stored tables are seen as, and what one place changes.
-use Rattle.std.proofs.Common.{nat_eq, eqb-true, ◌≡◌, ℕ, Bool, true, false, cond, List, bytes_eq, Option, None, Some, is_some, refl, sym, ap, ◌∙◌}
+use Rattle.std.proofs.Common.{nat_eq, ◌≡◌, ℕ, Bool, true, false, cond, List, bytes_eq, Option, None, Some, is_some, refl, sym, ap, ◌∙◌}
 use Rattle.std.specs.Cmp.{nat_cmp_total}
 use Rattle.std.specs.Cmp.Lexicographic.{nat_list_cmp_total}
 use Rattle.std.specs.FinMap as finite
-use Rattle.std.specs.FinMap.{FinMap, get-insert, get-empty, same_map, nat_cmp-IsAntisymmetric}
+use Rattle.std.specs.FinMap.{get-insert, get-empty, same_map, nat_cmp-IsAntisymmetric}
 use Rattle.std.specs.Ordering.{nat_cmp}
 use Rattle.gw_base.specs.declared.command_words.Service.{Service}
 use Rattle.gw_base.specs.declared.ids.CtxNum.{CtxNum}
@@ -31,6 +31,13 @@ ctx-maps_of s n = got_shown nat_cmp_total s.contexts n.0
 -- tables that show the same entries are seen as the same maps
 pub shown_alike : (a b : Stored) → ((t : List ℕ) → visible (finite.get a.terms t) ≡ visible (finite.get b.terms t)) → ((n : CtxNum) → visible (finite.get a.contexts n.0) ≡ visible (finite.get b.contexts n.0)) → maps_of a ≡ maps_of b
 shown_alike a b ts cs = same_maps (maps_of a) (maps_of b) (λ t. term-maps_of a t ∙ ts t ∙ sym (term-maps_of b t)) (λ n. ctx-maps_of a n ∙ cs n ∙ sym (ctx-maps_of b n))
+
+-- places that are found alike are one
+pub same_stored : (a b : Stored) → ((t : List ℕ) → finite.get a.terms t ≡ finite.get b.terms t) → ((n : CtxNum) → finite.get a.contexts n.0 ≡ finite.get b.contexts n.0) → a ≡ b
+same_stored a b ts cs =
+    let terms : a.terms ≡ b.terms = same_map nat_list_cmp_total names_same a.terms b.terms ts in
+    let contexts : a.contexts ≡ b.contexts = same_map nat_cmp_total nat_cmp-IsAntisymmetric a.contexts b.contexts (λ q. cs (record { 0 = q })) in
+    λ i. record { terms = terms i; contexts = contexts i }
 
 -- ---- no places
 
@@ -71,9 +78,7 @@ maps-put_ctx_place s n p = same_maps (maps_of (put_ctx_place s n p)) (put_ctx (m
 
 -- a place that is written as it is
 pub same_term_place : (s : Stored) (t : List ℕ) (p : Place Termination) → finite.get s.terms t ≡ Some p → put_term_place s t p ≡ s
-same_term_place s t p e =
-    ap (λ (f : FinMap name_cmp (Place Termination)). record { terms = f; contexts = s.contexts })
-    (same_map nat_list_cmp_total names_same (finite.insert s.terms t p) s.terms (λ q. got_term s t p q ∙ at q (bytes_eq q t) refl))
+same_term_place s t p e = same_stored (put_term_place s t p) s (λ q. got_term s t p q ∙ at q (bytes_eq q t) refl) (λ n. refl)
   where
     at : (q : List ℕ) (b : Bool) → bytes_eq q t ≡ b → cond b (Some p) (finite.get s.terms q) ≡ finite.get s.terms q
     at q true h = sym e ∙ ap (finite.get s.terms) (sym (same_name q t h))
@@ -85,13 +90,10 @@ served_here s t state (Here r) e = refl
 served_here s t state Out e = same_term_place s t Out e
 
 pub same_ctx_place : (s : Stored) (n : CtxNum) (p : Place ContextRecord) → finite.get s.contexts n.0 ≡ Some p → put_ctx_place s n p ≡ s
-same_ctx_place s n p e =
-    ap (λ (f : FinMap nat_cmp (Place ContextRecord)). record { terms = s.terms; contexts = f })
-    (same_map nat_cmp_total nat_cmp-IsAntisymmetric (finite.insert s.contexts n.0 p) s.contexts
-    (λ q. get-insert nat_cmp_total s.contexts n.0 p q ∙ ap (λ b. cond b (Some p) (finite.get s.contexts q)) (number_test q n.0) ∙ at q (nat_eq q n.0) refl))
+same_ctx_place s n p e = same_stored (put_ctx_place s n p) s (λ t. refl) (λ q. got_ctx s n p q ∙ at q (nat_eq q.0 n.0) refl)
   where
-    at : (q : ℕ) (b : Bool) → nat_eq q n.0 ≡ b → cond b (Some p) (finite.get s.contexts q) ≡ finite.get s.contexts q
-    at q true h = sym e ∙ ap (finite.get s.contexts) (sym (eqb-true q n.0 h))
+    at : (q : CtxNum) (b : Bool) → nat_eq q.0 n.0 ≡ b → cond b (Some p) (finite.get s.contexts q.0) ≡ finite.get s.contexts q.0
+    at q true h = sym e ∙ ap (λ (x : CtxNum). finite.get s.contexts x.0) (sym (same_number q n h))
     at q false h = refl
 
 pub emptied_here : (s : Stored) (n : CtxNum) (p : Place ContextRecord) → finite.get s.contexts n.0 ≡ Some p → put_ctx_place s n (emptied p) ≡ without_ctx n s (visible (Some p))

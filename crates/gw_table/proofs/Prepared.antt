@@ -1,21 +1,21 @@
 -- Places that are made, and places that are swept; and a key of a list in order, which is none of those before it.
-use Rattle.std.proofs.Common.{nat_eq, ◌≡◌, ℕ, suc, zero, ◌<◌, Bool, true, false, cond, List, [], ◌∷◌, ◌++◌, length, get_or, take, bytes_eq, Option, None, Some, is_some, refl, sym, ap, ◌∙◌, arith}
+use Rattle.std.proofs.Common.{nat_eq, ◌≡◌, ℕ, suc, zero, ◌+◌, ◌<◌, Bool, true, false, cond, List, [], ◌∷◌, ◌++◌, length, get_or, take, bytes_eq, Option, None, Some, is_some, refl, sym, subst, ap, ◌∙◌, arith}
+use Rattle.std.proofs.lemmas.List.{take_more}
 use Rattle.std.specs.Prelude.{◌||◌}
 use Rattle.std.specs.Cmp.{IsTotalOrder}
 use Rattle.std.specs.FinMap as finite
-use Rattle.std.specs.FinMap.{from_entries, get, get-empty}
+use Rattle.std.specs.FinMap.{from_entries, get}
 use Rattle.std.specs.List.{AllByRecursion}
 use Rattle.std.specs.List.Sorted.{IsStrictlySortedBy}
 use Rattle.std.specs.Map.{lookup}
 use Rattle.std.specs.BTreeMap.{is_at}
-use Rattle.std.specs.Ordering.{is_eq, nat_cmp}
+use Rattle.std.specs.Ordering.{is_eq}
 use Rattle.std.specs.declared.cmp.Ordering.{Ordering}
 use Rattle.std.specs.declared.cmp.Ordering.TheVariants.{Less}
 use Rattle.gw_base.specs.declared.ids.CtxNum.{CtxNum}
 use Rattle.gw_base.specs.declared.key.Key.{Key}
 use Rattle.gw_base.specs.declared.key.Key.TheVariants.{Term, Ctx, Whole}
 use Rattle.gw_base.specs.Keys.{same_key, has}
-use Rattle.gw_base.specs.NameLists.{name_cmp}
 use Rattle.gw_base.proofs.Booleans.{refuted}
 use Rattle.gw_base.proofs.KeyTests.{has-head, has-tail}
 use Rattle.gw_base.proofs.NameTests.{same_name, same_number}
@@ -23,11 +23,12 @@ use Rattle.gw_base.proofs.NamesInLists.{or_left, or_right, or_cases, either}
 use Rattle.gw_base.proofs.Views.{seen}
 use Rattle.gw_table.specs.declared.place.Place.{Place}
 use Rattle.gw_table.specs.declared.place.Place.TheVariants.{Empty, Here, Out}
+use Rattle.gw_table.specs.Cells.{cell_from, with_cell, IsFound}
 use Rattle.gw_table.specs.KeyLists.{key_cmp, IsInOrder}
-use Rattle.gw_table.specs.Stored.{Stored, visible, if_visible, has_left, maps_of, is_ready, is_out, put_term_place, put_ctx_place, ArePrepared, AreAsOut, NoneIsOut, AreSwept, KeepReady, AreReady, NoOtherReady, AreBlank, nothing_stored}
+use Rattle.gw_table.specs.Stored.{Stored, visible, if_visible, has_left, maps_of, is_ready, put_term_place, put_ctx_place, with_out, AreMoved, ArePrepared, AreAsOut, NoneIsOut, AreSwept, KeepReady, AreReady, NoOtherReady}
 use Rattle.gw_table.proofs.KeyOrder.{key_test, same_key_is}
-use Rattle.gw_table.proofs.Moved.{has-pushed}
-use Rattle.gw_table.proofs.Places.{term-maps_of, ctx-maps_of, shown_alike, got_term, got_ctx, nothing_out, maps_of_nothing}
+use Rattle.gw_table.proofs.Moved.{has-pushed, moved_more, ready_left}
+use Rattle.gw_table.proofs.Places.{term-maps_of, ctx-maps_of, shown_alike, got_term, got_ctx}
 
 -- ---- places are made
 
@@ -150,23 +151,6 @@ no_other_ready keys i a b p k off h = by (is_ready a k) (has (take i keys) k) (s
     by true y h o = refl
     by false y h o = absurd (let clash : true ≡ false = sym h ∙ o in cc)
 
--- places that were made for keys where there were none
-pub blank : (keys : List Key) (a b : Stored) → a ≡ nothing_stored → maps_of b ≡ maps_of a → AreAsOut a b → AreReady keys b → NoOtherReady keys a b → AreBlank keys b
-blank keys a b start maps out ready alone = record {
-  packed = record {
-    terms = λ t. only (is_ready b (Term t)) (has keys (Term t)) (ready (Term t)) (λ off h. alone (Term t) off h) (ap (λ (s : Stored). is_ready s (Term t)) start ∙ ap (λ o. is_some o) (get-empty name_cmp t));
-    contexts = λ n. only (is_ready b (Ctx n)) (has keys (Ctx n)) (ready (Ctx n)) (λ off h. alone (Ctx n) off h) (ap (λ (s : Stored). is_ready s (Ctx n)) start ∙ ap (λ o. is_some o) (get-empty nat_cmp n.0));
-    here = λ k. out k ∙ ap (λ (s : Stored). is_out s k) start ∙ nothing_out k;
-  };
-  maps = maps ∙ ap (λ s. maps_of s) start ∙ maps_of_nothing;
-}
-  where
-    only : {x : Bool} (r h : Bool) → (h ≡ true → r ≡ true) → (h ≡ false → r ≡ true → x ≡ true) → x ≡ false → r ≡ h
-    only true true f g e = refl
-    only true false f g e = absurd (let clash : true ≡ false = sym (g refl refl) ∙ e in cc)
-    only false true f g e = f refl
-    only false false f g e = refl
-
 -- ---- places are swept
 
 pub swept : {K X : Type 0} {R : K → K → Ordering} (total : IsTotalOrder R) (es fs : List (K × Place X)) → ((q : K) → lookup (is_at (R q)) fs ≡ if_visible (lookup (is_at (R q)) es)) → (q : K) → get (from_entries {R = R} fs) q ≡ if_visible (get (from_entries {R = R} es) q)
@@ -245,3 +229,21 @@ pub has_at : (keys : List Key) (i : ℕ) (d : Key) → i < length keys → has k
 has_at [] i d h = absurd (omega arith)
 has_at (x ∷ xs) zero d h = has-head x xs
 has_at (x ∷ xs) (suc i) d h = has-tail x (get_or xs i d) xs (has_at xs i d (omega arith))
+
+-- a key where it stands among them
+module _ (keys : List Key) (i : ℕ) (k : Key) (found : IsFound keys k (Some i)) where
+  pub held : has keys k ≡ true
+  held = ap (λ x. has keys x) (sym found.1) ∙ has_at keys i k found.0
+
+  pub first : IsInOrder keys → has (take i keys) k ≡ false
+  first order = ap (λ x. has (take i keys) x) (sym found.1) ∙ not_before keys i k found.0 order
+
+-- the keys before it were moved, and then it is moved too
+module _ (keys : List Key) (i : ℕ) (k : Key) (from to left full : Stored) (found : IsFound keys k (Some i)) (m : AreMoved (take i keys) from to left full) (r : AreReady keys from) where
+  pub ready_next : is_ready left k ≡ true
+  ready_next = ready_left (take i keys) from to left full m (λ x h. r x (front_has keys i x h)) k ∙ r k (held keys i k found)
+
+  pub moved_next : (after behind : Stored) → IsInOrder keys → after ≡ with_out left k → behind ≡ with_cell k (cell_from left k) full → AreMoved (take (i + 1) keys) from to after behind
+  moved_next after behind order e f =
+      subst (λ l. AreMoved l from to after behind) (sym (take_more keys i k found.0 ∙ ap (λ x. take i keys ++ x ∷ []) found.1))
+      (moved_more (take i keys) k from to left full after behind (first keys i k found order) ready_next e f m)

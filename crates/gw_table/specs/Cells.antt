@@ -11,7 +11,7 @@ use Rattle.gw_table.specs.declared.place.Place.{Place}
 use Rattle.gw_table.specs.declared.place.Place.TheVariants.{Empty, Out}
 use Rattle.gw_table.specs.declared.cell.Cell.{Cell}
 use Rattle.gw_table.specs.declared.cell.Cell.TheVariants.{OfTerm, OfCtx, OfWhole}
-use Rattle.gw_table.specs.Stored.{Stored, put_term_place, put_ctx_place, or_empty}
+use Rattle.gw_table.specs.Stored.{Stored, put_term_place, put_ctx_place}
 
 -- the place of a termination; in the cell of another kind it is empty
 abbrev pub cell_term : Cell → Place Termination
@@ -37,10 +37,10 @@ with_ctx (Term t) c es = es
 with_ctx (Ctx n) c es = (n.0, cell_ctx c) ∷ es
 with_ctx Whole c es = es
 
--- a cell for each key, each added to what those behind it come to
+-- a cell for each key, or for the first of them, each added to what those behind it come to
 abbrev pub cells_by : {E : Type 0} → (Key → Cell → List E → List E) → List Key → List Cell → List E
-cells_by add [] cells = []
-cells_by add (k ∷ keys) [] = []
+cells_by add keys [] = []
+cells_by add [] (c ∷ cells) = []
 cells_by add (k ∷ keys) (c ∷ cells) = add k c (cells_by add keys cells)
 
 abbrev pub term_cells : List Key → List Cell → List (List ℕ × Place Termination)
@@ -54,16 +54,16 @@ celled keys cells = record { terms = from_entries (term_cells keys cells); conte
 
 -- ---- one cell
 
-abbrev pub empty_cell : Key → Cell
-empty_cell (Term t) = OfTerm Empty
-empty_cell (Ctx n) = OfCtx Empty
-empty_cell Whole = OfWhole
-
 -- the cell of a key, from which what stood there went out
 abbrev pub out_cell : Key → Cell → Cell
 out_cell (Term t) c = OfTerm Out
 out_cell (Ctx n) c = OfCtx Out
 out_cell Whole c = c
+
+-- where there is no place it is empty
+abbrev pub or_empty : {A : Type 0} → Option (Place A) → Place A
+or_empty None = Empty
+or_empty (Some p) = p
 
 -- the cell of a key with what stands at it in tables
 abbrev pub cell_from : Stored → Key → Cell

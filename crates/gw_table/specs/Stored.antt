@@ -17,7 +17,7 @@ use Rattle.gw_term.specs.RecordCodes.{coded_termination}
 use Rattle.gw_ctx.specs.Contexts.{ContextRecord, coded_context}
 use Rattle.gw_table.specs.declared.place.Place.{Place}
 use Rattle.gw_table.specs.declared.place.Place.TheVariants.{Empty, Here, Out}
-use Rattle.gw_table.specs.Maps.{Maps, no_maps}
+use Rattle.gw_table.specs.Maps.{Maps}
 
 pub record Stored : Type 0 where
   pub terms : finite.FinMap name_cmp (Place Termination)
@@ -166,11 +166,6 @@ pub record ArePacked (keys : List Key) (s : Stored) : Type 0 where
   pub contexts : (n : CtxNum) → is_ready s (Ctx n) ≡ has keys (Ctx n)
   pub here : NoneIsOut s
 
--- an empty place for each of the keys and no other
-pub record AreBlank (keys : List Key) (s : Stored) : Type 0 where
-  pub packed : ArePacked keys s
-  pub maps : maps_of s ≡ no_maps
-
 -- ---- single changes, and lists of them
 
 abbrev pub put_term_place : Stored → List ℕ → Place Termination → Stored
@@ -213,16 +208,6 @@ abbrev pub with_out : Stored → Key → Stored
 with_out s (Term t) = put_term_place s t Out
 with_out s (Ctx n) = put_ctx_place s n Out
 with_out s Whole = s
-
--- the place of the key is as in the tables `from`
-abbrev pub or_empty : {A : Type 0} → Option (Place A) → Place A
-or_empty None = Empty
-or_empty (Some p) = p
-
-abbrev pub with_place_of : Stored → Key → Stored → Stored
-with_place_of from (Term t) s = put_term_place s t (or_empty (finite.get from.terms t))
-with_place_of from (Ctx n) s = put_ctx_place s n (or_empty (finite.get from.contexts n.0))
-with_place_of from Whole s = s
 
 -- Places were made for these keys where there were none: `b` is `a` after it.
 pub record ArePrepared (keys : List Key) (a b : Stored) : Type 0 where

@@ -1,9 +1,9 @@
 //! What stands at the keys of a part: a cell for each, found by a search among the keys in order.
 
-ghost use Rattle.std.specs.Prelude.{◌≡◌, Some, map, IfOk, option_copied};
+ghost use Rattle.std.specs.Prelude.{◌≡◌, Some, IfOk, option_copied};
 ghost use Rattle.gw_base.specs.declared.key.Key.{Key};
 ghost use Rattle.gw_base.specs.declared.key.Key.TheVariants.{Term, Ctx};
-ghost use Rattle.gw_table.specs.Cells.{cell_term, cell_ctx, empty_cell, IsFound};
+ghost use Rattle.gw_table.specs.Cells.{cell_term, cell_ctx, IsFound};
 ghost use Rattle.gw_table.specs.KeyLists.{key_cmp, IsInOrder};
 ghost use Rattle.gw_table.specs.Stored.{visible};
 
@@ -11,7 +11,6 @@ use crate::place::{Place, entry_at};
 use gw_base::{CtxNum, Key, NoMemory, TermName};
 use gw_ctx::Context;
 use gw_term::Termination;
-use std::alloc::Global;
 use std::cmp::Ordering;
 
 /// The place of a key of a part, by the kind of the key. Of `Whole` there is none.
@@ -26,17 +25,6 @@ pub enum Cell {
 }
 
 impl Cell {
-    /// The cell of a key, with no entry.
-    fn empty(key: &Key) -> Cell
-        ensures { result ≡ empty_cell key.now }
-    {
-        match key {
-            Key::Term(_) => Cell::OfTerm(Place::Empty),
-            Key::Ctx(_) => Cell::OfCtx(Place::Empty),
-            Key::Whole => Cell::OfWhole,
-        }
-    }
-
     /// The place of a termination.
     pub(crate) fn into_term(self) -> Place<Termination>
         ensures { result ≡ cell_term self }
@@ -87,17 +75,6 @@ impl Cell {
             Cell::OfTerm(_) | Cell::OfWhole => None,
         }
     }
-}
-
-/// A cell for each key, with no entry.
-pub(crate) fn empty_cells(alloc: Global, keys: &[Key]) -> Result<Vec<Cell>, NoMemory>
-    ensures { IfOk result (λ cells. cells.items ≡ map empty_cell keys.now) }
-{
-    let mut cells = Vec::with_capacity(alloc, keys.len())?;
-    for key in keys {
-        cells.push(Cell::empty(key))?;
-    }
-    Ok(cells)
 }
 
 fn compare_to_name(key: &Key, name: &TermName) -> Ordering

@@ -3,18 +3,19 @@
 ghost use Rattle.std.specs.Prelude.{◌≡◌, IfOk};
 ghost use Rattle.gw_table.specs.KeyLists.{IsInOrder, IsListOf};
 
-use crate::cell::{Cell, empty_cells};
+use crate::cell::Cell;
 use crate::key_list::put_in_order;
 use crate::rows::Guide;
 use gw_base::{Key, NoMemory};
 use std::alloc::Global;
 use std::marker::Model;
 
-/// Keys in order without doubles, each with an empty place for its entry: terminations by the bytes of their names,
-/// then contexts by number, then `Whole`.
+/// Keys in order without doubles, with room for their entries: terminations by the bytes of their names, then contexts
+/// by number, then `Whole`.
 #[derive(Drop)]
 pub struct Keys {
     pub(crate) list: Vec<Key>,
+    // Empty, with room for the cell of each key.
     pub(crate) cells: Vec<Cell>,
     // Where the row of each key was last. No contract speaks of it: what is there is looked at before it is believed,
     // and a missing one is `Guide::none()`.
@@ -22,13 +23,11 @@ pub struct Keys {
 }
 
 impl Model for Keys {
-    ghost use Rattle.std.specs.Prelude.{◌≡◌, List, length};
+    ghost use Rattle.std.specs.Prelude.{◌≡◌, ◌≤◌, List, [], length, vec_capacity};
     ghost use Rattle.std.specs.Coded.{coded_list};
     ghost use Rattle.gw_base.specs.declared.key.Key.{Key};
-    ghost use Rattle.gw_table.specs.Cells.{celled};
     ghost use Rattle.gw_table.specs.KeyLists.{IsInOrder};
     ghost use Rattle.gw_table.specs.Parts.{coded_key};
-    ghost use Rattle.gw_table.specs.Stored.{AreBlank};
 
     ghost Value = { List Key };
 
@@ -36,7 +35,7 @@ impl Model for Keys {
 
     ghost view = { λ a. a.list.items };
 
-    ghost invariant = { λ a. IsInOrder a.list.items × (length a.cells.items ≡ length a.list.items) × AreBlank a.list.items (celled a.list.items a.cells.items) };
+    ghost invariant = { λ a. IsInOrder a.list.items × (a.cells.items ≡ []) × (length a.list.items ≤ vec_capacity a.cells) };
 }
 
 impl Keys {
@@ -49,7 +48,7 @@ impl Keys {
         requires { IsInOrder list.items }
         ensures { IfOk result (λ keys. keys ≡ list.items) }
     {
-        let cells = empty_cells(alloc, &list)?;
+        let cells = Vec::with_capacity(alloc, list.len())?;
         let guides = vec![in alloc; Guide::none(); list.len()]?;
         Ok(Keys {
             list,

@@ -1,6 +1,6 @@
 //! Entries that go from tables to a part, and back. Nothing here takes memory.
 
-ghost use Rattle.std.specs.Prelude.{◌≡◌, Some, [], true, List, length};
+ghost use Rattle.std.specs.Prelude.{◌≡◌, ◌≤◌, Some, [], true, List, length, vec_capacity};
 ghost use Rattle.std.specs.FinMap as finite;
 ghost use Rattle.gw_base.specs.declared.key.Key.{Key};
 ghost use Rattle.gw_base.specs.declared.key.Key.TheVariants.{Term, Ctx};
@@ -8,7 +8,7 @@ ghost use Rattle.gw_base.specs.Keys.{has};
 ghost use Rattle.gw_table.specs.Cells.{celled, cell_from, out_cell, with_cell};
 ghost use Rattle.gw_table.specs.KeyLists.{IsInOrder};
 ghost use Rattle.gw_table.specs.Parts.{Only, list_of, restricted, cut, overlaid};
-ghost use Rattle.gw_table.specs.Stored.{maps_of, is_ready, put_term_place, put_ctx_place, with_out, AreMoved, AreReady, AreIn, AreOut, AreAsReady, AreAsOut, WentOut, CameBack};
+ghost use Rattle.gw_table.specs.Stored.{nothing_stored, maps_of, is_ready, put_term_place, put_ctx_place, with_out, AreMoved, AreReady, AreIn, AreOut, AreAsReady, AreAsOut, WentOut, CameBack};
 
 use crate::cell::Cell;
 use crate::in_use::{set_number, set_slot};
@@ -67,30 +67,32 @@ impl Tables {
         }
     }
 
-    /// Takes what stands at a key out, into its cell.
-    fn take_one(&mut self, guide: &mut Guide, key: &Key, cell: &mut Cell)
+    /// Takes what stands at a key out, as its cell.
+    fn take_one(&mut self, guide: &mut Guide, key: &Key) -> Cell
         requires { is_ready self.old key.now ≡ true }
         ensures left { self.new ≡ with_out self.old key.now }
-        ensures full { cell.new ≡ cell_from self.old key.now }
+        ensures full { result ≡ cell_from self.old key.now }
     {
-        *cell = match key {
+        match key {
             Key::Term(name) => Cell::OfTerm(self.exchange_term(guide, name, Place::Out)),
             Key::Ctx(number) => Cell::OfCtx(self.exchange_ctx(guide, *number, Place::Out)),
             Key::Whole => Cell::OfWhole,
-        };
+        }
     }
 
-    /// Takes what stands at each of the keys out, into its cell, and sets its guide.
-    fn take_each(&mut self, keys: &[Key], cells: &mut [Cell], guides: &mut [Guide])
+    /// Takes what stands at each of the keys out, as a cell, and sets its guide. The caller knows that there is room
+    /// for the cells.
+    fn take_each(&mut self, keys: &[Key], cells: &mut Vec<Cell>, guides: &mut [Guide])
         requires order { IsInOrder keys.now }
-        requires as_many { length cells.old ≡ length keys.now }
+        requires empty { cells.old.items ≡ [] }
+        requires room { length keys.now ≤ vec_capacity cells.old }
         requires ready { AreReady keys.now self.old }
-        ensures moved { AreMoved keys.now self.old (celled keys.now cells.old) self.new (celled keys.now cells.new) }
-        ensures as_many { length cells.new ≡ length keys.now }
+        ensures moved { AreMoved keys.now self.old nothing_stored self.new (celled keys.now cells.new.items) }
+        ensures as_many { length cells.new.items ≡ length keys.now }
     {
         for (i, key) in keys.iter().enumerate() {
             let mut guide = guide_at(guides, i);
-            self.take_one(&mut guide, key, &mut cells[i]);
+            cells.push_reserved(self.take_one(&mut guide, key));
             set_guide(guides, i, guide);
         }
     }
