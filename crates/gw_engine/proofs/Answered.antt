@@ -28,7 +28,6 @@ use Rattle.gw_engine.specs.Forms.{IsItemInForm, IsMessageInForm, IsInForm, AreIn
 use Rattle.gw_engine.specs.Readable.{Question, question_in, questions_in, questions, IsAnswerTo}
 use Rattle.gw_engine.specs.State.{Settings, GatewayValue, IsKeptReply, IsWellFormed}
 use Rattle.gw_engine.proofs.ErrorsRead.{fault_is_error}
-use Rattle.gw_engine.proofs.OneMore.{zip_append}
 use Rattle.gw_engine.proofs.RepliesKept.{reply_read, kept_more, kept_found}
 
 abbrev pub IsSmall : ℕ → Type 0
@@ -44,6 +43,12 @@ pub record IsSound (s : Settings) (p : Progress) : Type 0 where
 pub record IsAnswered (s : Settings) (qs : List Question) (t : Step) : Type 0 where
   pub answers : AllZip (IsAnswerTo s.mid) qs t.answers
   pub after : IsSound s t.after
+
+zip_append : {A B : Type 0} (R : A → B → Type 0) (xs ys : List A) (us vs : List B) → AllZip R xs us → AllZip R ys vs → AllZip R (xs ++ ys) (us ++ vs)
+zip_append R [] ys [] vs h k = k
+zip_append R [] ys (u ∷ us) vs h k = absurd h
+zip_append R (x ∷ xs) ys [] vs h k = absurd h
+zip_append R (x ∷ xs) ys (u ∷ us) vs h k = (h.0, zip_append R xs ys us vs h.1 k)
 
 -- the names of small slots are names
 named_slots : (slots : List (Option ℕ)) → All (λ (s : ℕ). s < 4096) (owned slots) → All IsSlot slots

@@ -13,4 +13,3 @@ pub mod Reserving
 pub mod Carrying
 pub mod Answered
 pub mod Outcomes
-pub mod Crossing

@@ -150,11 +150,13 @@ fn with_texts(
 {
     for bytes in texts {
         let job = &jobs[entries.len()];
-        entries.push_reserved(Entry {
+        let Ok(()) = entries.push(Entry {
             mid: *job.mid.mid(),
             id: job.request.id(),
             bytes,
-        });
+        }) else {
+            unreachable!()
+        };
     }
     entries
 }

@@ -17,7 +17,7 @@ use crate::counts::BurstCounts;
 use crate::datagram::Datagram;
 use crate::gateway::Gateway;
 use crate::items::{BurstItem, items_of, turns_of};
-use crate::reading::{ReadDatagram, arenas_for, keeps_trees, read_burst};
+use crate::reading::{ReadDatagram, arena_for, keeps_trees, read_burst};
 use crate::workers::Workers;
 use gw_base::{Items, NoMemory};
 use gw_board::{BurstRequest, Profile};
@@ -153,9 +153,8 @@ impl Gateway {
     /// the request's number within its wave, from 0. A wave has as many workers as requests at most, and with one no
     /// thread is started. Answers and state are the same for every number of workers, however they are scheduled. A
     /// worker that cannot be started is no fault. A `pass` that never returns holds up the call. The answers of 128
-    /// items or more are written by workers too, and a burst of 32,768 bytes or more is read by workers; there they
-    /// pass no gate. Each reader reads datagrams that follow one another, into an arena for their lists, which is freed
-    /// when the burst is over.
+    /// items or more are written by workers too; there they pass no gate. The lists of what is read lie in an arena,
+    /// which is freed when the burst is over, so a burst is read by the caller alone.
     ///
     /// Of a burst of more than 1,048,576 bytes the trees of requests are not kept: each request is read when the burst
     /// comes in, once more for what it owns and once more to be executed, and one worker executes all of them, one
@@ -206,13 +205,13 @@ impl Gateway {
     {
         // No effect at run time. The proof reads here that the state is well-formed.
         let _ = &self.tables;
+        let workers = Workers::new(rt, workers, gate);
         let keeps_trees = keeps_trees(burst);
-        let workers = Workers::new(rt, workers, gate).alone_unless(keeps_trees);
-        let (bump, mut others) = arenas_for(&workers, alloc, burst, keeps_trees)?;
-        let messages = read_burst(rt, alloc, &bump, burst, keeps_trees, &mut others)?;
+        let bump = arena_for(alloc, burst, keeps_trees)?;
+        let messages = read_burst(alloc, &bump, burst, keeps_trees)?;
         let plan = self.plan(alloc, messages.as_slice())?;
         let counts = plan.counts;
-        let answers = self.perform(&workers, alloc, plan)?;
+        let answers = self.perform(&workers.alone_unless(keeps_trees), alloc, plan)?;
         Ok(BurstAnswers { answers, counts })
     }
 }

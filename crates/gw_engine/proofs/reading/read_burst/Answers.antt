@@ -4,7 +4,7 @@ use Rattle.gw_engine.proofs.OneMore.{one_more}
 use Rattle.gw_engine.specs.declared.datagram.Datagram.{Datagram}
 use Rattle.gw_engine.specs.declared.reading.ReadDatagram.{ReadDatagram}
 use Rattle.gw_engine.specs.Bursts.{IsReadAs}
-use Rattle.gw_engine.proofs.reading.in_turn.Goals as goal
+use Rattle.gw_engine.proofs.reading.read_burst.Goals as goal
 
 pub loop-datagram-preserved : goal.loop-datagram-preserved
 loop-datagram-preserved c =
