@@ -54,7 +54,7 @@ still_none (p ∷ ps) (suc i) new e h =
     let both = neither (is_open p.standing) (list_any (λ q. is_open q.standing) ps) h in
     λ k. both.0 k || still_none ps i new e both.1 k
 
-closed_more : (places : List Place) (i : ℕ) (new : Place) → is_closed new.standing ≡ true → AllClosed (take i places) → AllClosed (take (suc i) (slice_set places i new))
+pub closed_more : (places : List Place) (i : ℕ) (new : Place) → is_closed new.standing ≡ true → AllClosed (take i places) → AllClosed (take (suc i) (slice_set places i new))
 closed_more [] i new f h = refl
 closed_more (q ∷ qs) zero new f h = ap (λ b. not b || false) f
 closed_more (q ∷ qs) (suc i) new f h =
@@ -148,9 +148,6 @@ module _ (profile : Profile) (start : Stored) (maps : Maps) (places : List Place
   alone_none = still_none b.places i closed refl g.none
 
   module _ (first : AllClosed (take i b.places)) where
-    pub alone_closed : AllClosed (take (suc i) (slice_set b.places i closed))
-    alone_closed = closed_more b.places i closed refl first
-
     abbrev keys : List Key
     keys = keys_of a b.maps
 

@@ -63,44 +63,9 @@ pub(crate) fn pending_at<'b, 'h, 'a>(
     }
 }
 
-/// Executes the request of a place, if it is pending, on a draft of whole tables, and closes the place with its
-/// reply. The gate is passed before. Texts are gathered in the block, whatever it has. The caller knows that nothing
-/// is open, that all earlier places are closed, and that what is pending may be executed from the draft's maps on.
-///
-/// # Errors
-///
-/// Out of memory. The place stays pending, and nothing is known of the draft but its keys.
-fn carry_place<G: Gate>(
-    alloc: Global,
-    profile: &Profile,
-    board_entries: &mut Vec<BoardEntry<'_, '_, '_>>,
-    place: usize,
-    draft: &mut Draft,
-    block: &mut Items<u8>,
-    gate: &G,
-) -> Result<(), NoMemory>
-    requires over { draft.old.keys ≡ Over (start_of draft.old.keys) }
-    requires goes_on { (start : Stored) × MayGoOn profile.now start draft.old.maps (map place_of board_entries.old.items) }
-    requires first { AllClosed (take place (map place_of board_entries.old.items)) }
-    ensures goes_on { OnOk result ((start : Stored) → MayGoOn profile.now start draft.old.maps (map place_of board_entries.old.items) → MayGoOn profile.now start draft.new.maps (map place_of board_entries.new.items)) }
-    ensures closed { OnOk result (AllClosed (take (place + 1) (map place_of board_entries.new.items))) }
-    ensures beside { (first end : ℕ) → first ≤ place → place < end → OnOk result (AreSameBeside first end (map place_of board_entries.old.items) (map place_of board_entries.new.items)) }
-    ensures requested { requested_in (map place_of board_entries.new.items) ≡ requested_in (map place_of board_entries.old.items) }
-    ensures len { vec_len board_entries.new ≡ vec_len board_entries.old }
-    ensures keys { draft.new.keys ≡ draft.old.keys }
-{
-    let Some(task) = pending_at(board_entries, place) else {
-        return Ok(());
-    };
-    gate.pass(0);
-    let text = carry_on(alloc, profile, task.get(), draft, block)?;
-    set_stage(board_entries, place, Stage::Closed(text));
-    Ok(())
-}
-
-/// Executes what is pending of a range of places, one after another, on a draft of whole tables. The caller knows that
-/// nothing is open, that all places before the range are closed, and that what is pending may be executed from the
-/// draft's maps on.
+/// Executes what is pending of a range of places, one after another, on a draft of whole tables, and closes each with
+/// its reply. The gate is passed before each. The caller knows that nothing is open, that all places before the range
+/// are closed, and that what is pending may be executed from the draft's maps on.
 ///
 /// # Errors
 ///
@@ -126,15 +91,12 @@ fn carry_each<G: Gate>(
 {
     let mut block = Items::new(alloc);
     for place in places.start..places.end {
-        carry_place(
-            alloc,
-            profile,
-            board_entries,
-            place,
-            draft,
-            &mut block,
-            gate,
-        )?;
+        let Some(task) = pending_at(board_entries, place) else {
+            continue;
+        };
+        gate.pass(0);
+        let text = carry_on(alloc, profile, task.get(), draft, &mut block)?;
+        set_stage(board_entries, place, Stage::Closed(text));
     }
     Ok(())
 }

@@ -8,14 +8,13 @@ use Rattle.gw_term.specs.declared.record.Termination.{Termination}
 use Rattle.gw_ctx.specs.Contexts.{ContextRecord, left}
 use Rattle.gw_table.specs.declared.cell.Cell.{Cell}
 use Rattle.gw_table.specs.declared.cell.Cell.TheVariants.{OfTerm, OfCtx}
-use Rattle.gw_table.specs.declared.place.Place.{Place}
 use Rattle.gw_table.specs.Cells.{cell_term, cell_ctx, celled, IsFound}
 use Rattle.gw_table.specs.Joining.{left_at}
 use Rattle.gw_table.specs.KeyLists.{IsInOrder}
 use Rattle.gw_table.specs.Maps.{Maps, number, term, ctx, put_term, put_ctx, names, numbers, context_of}
 use Rattle.gw_table.specs.Members.{unless_empty}
 use Rattle.gw_table.specs.Parts.{Parted, Only, IsPart}
-use Rattle.gw_table.specs.Stored.{Stored, visible, placed, maps_of, put_term_place, put_ctx_place, NoneIsOut, ArePacked}
+use Rattle.gw_table.specs.Stored.{Stored, visible, placed, maps_of, NoneIsOut, ArePacked}
 use Rattle.gw_table.proofs.Celled.{term_here, ctx_here, packed, set_cell, packed_part}
 use Rattle.gw_table.proofs.Lookups.{put_ctx-put_ctx}
 use Rattle.gw_table.proofs.Picked.{name_in, number_in, has_name, has_number, picked, names_picked, numbers_picked}
@@ -41,34 +40,28 @@ module _ (keys : List Key) (cells : List Cell) (i : ℕ) (f : IsFilled keys cell
 
   -- ---- what is set there
 
-  wrote_term : (t : List ℕ) (p : Place Termination) → IsFound keys (Term t) (Some i) → celled keys (set cells i (OfTerm p)) ≡ put_term_place (celled keys cells) t p
-  wrote_term t p found = set_cell keys cells i f.0 f.1 (Term t) (OfTerm p) found
-
-  wrote_ctx : (n : CtxNum) (p : Place ContextRecord) → IsFound keys (Ctx n) (Some i) → celled keys (set cells i (OfCtx p)) ≡ put_ctx_place (celled keys cells) n p
-  wrote_ctx n p found = set_cell keys cells i f.0 f.1 (Ctx n) (OfCtx p) found
-
   pub term_set : (t : List ℕ) (o : Option Termination) (x : Cell) → x ≡ OfTerm (placed o) → IsFound keys (Term t) (Some i) → IsFilled keys (set cells i x)
   term_set t o x is found = subst (λ (y : Cell). IsFilled keys (set cells i y)) (sym is) (
     f.0,
     length-set cells i (OfTerm (placed o)) ∙ f.1,
-    packed keys (set cells i (OfTerm (placed o))) (length-set cells i (OfTerm (placed o)) ∙ f.1) (subst NoneIsOut (sym (wrote_term t (placed o) found)) (in-put_term (celled keys cells) t (placed o) (placed_here o) f.2.here)),
+    packed keys (set cells i (OfTerm (placed o))) (length-set cells i (OfTerm (placed o)) ∙ f.1) (subst NoneIsOut (sym (set_cell keys cells i f.0 f.1 (Term t) (OfTerm (placed o)) found)) (in-put_term (celled keys cells) t (placed o) (placed_here o) f.2.here)),
   )
 
   pub ctx_set : (n : CtxNum) (o : Option ContextRecord) (x : Cell) → x ≡ OfCtx (placed o) → IsFound keys (Ctx n) (Some i) → IsFilled keys (set cells i x)
   ctx_set n o x is found = subst (λ (y : Cell). IsFilled keys (set cells i y)) (sym is) (
     f.0,
     length-set cells i (OfCtx (placed o)) ∙ f.1,
-    packed keys (set cells i (OfCtx (placed o))) (length-set cells i (OfCtx (placed o)) ∙ f.1) (subst NoneIsOut (sym (wrote_ctx n (placed o) found)) (in-put_ctx (celled keys cells) n (placed o) (placed_here o) f.2.here)),
+    packed keys (set cells i (OfCtx (placed o))) (length-set cells i (OfCtx (placed o)) ∙ f.1) (subst NoneIsOut (sym (set_cell keys cells i f.0 f.1 (Ctx n) (OfCtx (placed o)) found)) (in-put_ctx (celled keys cells) n (placed o) (placed_here o) f.2.here)),
   )
 
   pub maps_term_set : (t : List ℕ) (o : Option Termination) (x : Cell) → x ≡ OfTerm (placed o) → IsFound keys (Term t) (Some i) → maps_of (celled keys (set cells i x)) ≡ put_term (maps_of (celled keys cells)) t o
   maps_term_set t o x is found =
-      ap (λ (y : Cell). maps_of (celled keys (set cells i y))) is ∙ ap (λ (s : Stored). maps_of s) (wrote_term t (placed o) found)
+      ap (λ (y : Cell). maps_of (celled keys (set cells i y))) is ∙ ap (λ (s : Stored). maps_of s) (set_cell keys cells i f.0 f.1 (Term t) (OfTerm (placed o)) found)
       ∙ maps-put_term_place (celled keys cells) t (placed o) ∙ ap (put_term (maps_of (celled keys cells)) t) (shown_placed o)
 
   pub maps_ctx_set : (n : CtxNum) (o : Option ContextRecord) (x : Cell) → x ≡ OfCtx (placed o) → IsFound keys (Ctx n) (Some i) → maps_of (celled keys (set cells i x)) ≡ put_ctx (maps_of (celled keys cells)) n o
   maps_ctx_set n o x is found =
-      ap (λ (y : Cell). maps_of (celled keys (set cells i y))) is ∙ ap (λ (s : Stored). maps_of s) (wrote_ctx n (placed o) found)
+      ap (λ (y : Cell). maps_of (celled keys (set cells i y))) is ∙ ap (λ (s : Stored). maps_of s) (set_cell keys cells i f.0 f.1 (Ctx n) (OfCtx (placed o)) found)
       ∙ maps-put_ctx_place (celled keys cells) n (placed o) ∙ ap (put_ctx (maps_of (celled keys cells)) n) (shown_placed o)
 
 -- ---- names and numbers by the part's keys
