@@ -140,10 +140,9 @@ impl Board<'_, '_, '_> {
         }
     }
 
-    /// Executes what is pending of a range of places, one after another, on the tables where they lie, and closes each
-    /// with its reply: what opening the place, executing its job and closing it with the result come to. The tables are
-    /// moved into a draft once for all, which goes on with the undo log of the places that were executed so last. The
-    /// caller knows that nothing is open, that all earlier places are closed, and that the first of these is pending.
+    /// Executes what is pending of a range of places, one after another, on one draft of the tables where they lie,
+    /// which goes on with the undo log of the places that were executed so last. The caller knows that nothing is open,
+    /// that all earlier places are closed, and that the first of these is pending.
     ///
     /// # Errors
     ///
