@@ -9,7 +9,7 @@ use gw_base::{NoMemory, Rules};
 use gw_msg::Request;
 use gw_reply::{ActionReply, TxReply, Written};
 use gw_reserve::Owned;
-use gw_table::{Draft, Tables, UndoLog};
+use gw_table::{Draft, Tables};
 use gw_tx::transaction;
 
 /// Writes the text of an action reply.
@@ -55,7 +55,7 @@ pub fn write_tree(
     requires unused { AreFreeSlots (maps_of tables) owned.now.slots }
 {
     let alloc = out.alloc();
-    let mut draft = Draft::of_tables(tables, UndoLog::new(alloc));
+    let mut draft = Draft::of_tables(alloc, tables);
     let done: Result<TxReply, NoMemory> = transaction(alloc, rules, &mut draft, request, owned);
     match done {
         Ok(reply) => write_replies(&reply, out),

@@ -10,28 +10,26 @@ use Rattle.gw_reserve.specs.Owned.{AreFreeSlots}
 use Rattle.gw_table.specs.Locality.{KeepsTo}
 use Rattle.gw_table.specs.Maps.{Maps, Outcome}
 use Rattle.gw_table.specs.Parts.{restricted, cut, overlaid}
-use Rattle.gw_table.specs.Stored.{Stored, AreReady}
+use Rattle.gw_table.specs.Stored.{Stored}
 use Rattle.gw_table.specs.WellFormed.{AreWellFormed}
 use Rattle.gw_board.specs.declared.profile.Profile.{Profile}
-use Rattle.gw_board.specs.Alone.{is_unclosed_at, TakesLast, Off, Fresh}
+use Rattle.gw_board.specs.Alone.{is_unclosed_at}
 use Rattle.gw_board.specs.BoardView.{IsOnTheWay}
 use Rattle.gw_board.specs.Boards.{Seen, Handed, core_of, with_open, with_result, is_closed, is_pending_at, AllClosed}
 use Rattle.gw_board.specs.Carried.{BurstRequest, keys_of, done}
 use Rattle.gw_board.specs.Core.{Standing, Pending, Opened, Closed, Place, Job, pending, open_with, closed_with, meets_at, meets_any, MayOpen}
-use Rattle.gw_board.specs.Fitting.{Each, out, Stands, Beside, Stand}
+use Rattle.gw_board.specs.Fitting.{out, Stands, Beside, Stand}
 use Rattle.gw_board.specs.GoingOn.{MayGoOn}
-use Rattle.gw_board.specs.Journal.{UndoStep, led as led_to, undone}
 use Rattle.gw_board.specs.Results.{is_open, NothingIsOpen}
 use Rattle.gw_board.specs.Texts.{Text}
 use Rattle.gw_board.specs.Waves.{is_pending}
 use Rattle.gw_board.proofs.Comes.{out_of_none}
 use Rattle.gw_board.proofs.Drawing.{set_here}
 use Rattle.gw_board.proofs.OnTheWay.{set_twice, open_way, result_way}
-use Rattle.gw_board.proofs.Orders.{behind_in, each_front, each_behind}
+use Rattle.gw_board.proofs.Orders.{behind_in}
 use Rattle.gw_board.proofs.Outs.{cut_none, laid_on}
 use Rattle.gw_board.proofs.Requests.{keeps}
 use Rattle.gw_board.proofs.Slices.{parts_at}
-use Rattle.gw_board.proofs.Steps.{undone-append}
 
 -- ---- places
 
@@ -101,19 +99,6 @@ or_nothing false = refl
 laid_same : (k : List Key) (p m : Maps) → overlaid k p (cut k m) ≡ overlaid k p m
 laid_same k p m = laid_on k [] k p m (λ q. or_nothing (has k q)) (λ q h. refl) ∙ cut_none [] (overlaid k p m) (λ q. refl)
 
--- ---- the original that is gone on with
-
-pub took_back : (before after : List UndoStep) (last : UndoStep) → TakesLast before after last → (m : Maps) → undone after (led_to last m) ≡ undone before m
-took_back before after last (Off e) m = sym (undone-append after (last ∷ []) m) ∙ ap (λ (l : List UndoStep). undone l m) (sym e)
-took_back before after last (Fresh e f) m = ap (λ (o : UndoStep). undone after (led_to o m)) f ∙ ap (λ (l : List UndoStep). undone l m) e
-
-pub took_ready : (before after : List UndoStep) (last : UndoStep) → TakesLast before after last → (s : Stored) → Each (λ o. AreReady o.keys s) before → Each (λ o. AreReady o.keys s) after × AreReady last.keys s
-took_ready before after last (Off e) s h =
-    let both = subst (λ (l : List UndoStep). Each (λ o. AreReady o.keys s) l) e h in
-    (each_front (λ o. AreReady o.keys s) after (last ∷ []) both, (each_behind (λ o. AreReady o.keys s) after (last ∷ []) both).0)
-took_ready before after last (Fresh e f) s h =
-    (subst (λ (l : List UndoStep). Each (λ o. AreReady o.keys s) l) (sym e) h, subst (λ (o : UndoStep). AreReady o.keys s) (sym f) (λ k g. absurd cc))
-
 -- nothing is out
 pub whole_there : (b : Seen) (w : IsOnTheWay b) → NothingIsOpen (core_of b) → b.maps ≡ w.fits.whole
 whole_there b w none = w.fits.maps ∙ cut_none (out b.places) w.fits.whole (out_of_none b.places none)
@@ -177,9 +162,6 @@ module _ (profile : Profile) (start : Stored) (maps : Maps) (places : List Place
     same_places =
         set_twice b.places i (open_with a job) (closed_with a (done b.profile a (restricted keys b.maps)).answer)
         ∙ ap (λ (r : Text). slice_set b.places i (closed_with a r)) keeping.answer
-
-    none_ended : list_any (λ p. is_open p.standing) ended.places ≡ false
-    none_ended = ap (λ (l : List Place). list_any (λ p. is_open p.standing) l) same_places ∙ alone_none
 
     is_ended : ended ≡ record { profile = b.profile; start = b.start; maps = o.maps; places = slice_set b.places i closed; undo_log = ended.undo_log }
     is_ended = λ j. record { profile = b.profile; start = b.start; maps = same_outcome j; places = same_places j; undo_log = ended.undo_log }

@@ -5,7 +5,7 @@ use Rattle.std.specs.List.{list_any}
 use Rattle.gw_base.specs.declared.key.Key.{Key}
 use Rattle.gw_base.proofs.Booleans.{neither}
 use Rattle.gw_table.specs.Maps.{Maps}
-use Rattle.gw_table.specs.Parts.{Over, Parted}
+use Rattle.gw_table.specs.Parts.{PartKeys, Parted, Over, start_of}
 use Rattle.gw_table.specs.Stored.{Stored, maps_of}
 use Rattle.gw_table.specs.WellFormed.{AreWellFormed}
 use Rattle.gw_tx.specs.Footprints.{Covers}
@@ -71,6 +71,10 @@ covers_over limit p s e well needed = subst (λ (x : Parted). Covers x needed) (
   entries = record { terms = λ t h. refl; contexts = λ n h. refl };
   held = λ k h. refl;
 })
+
+-- it begins at the tables that it was made of
+pub begun_at : {tables s : Stored} → s ≡ tables → {first : Parted} {keys : PartKeys} → first ≡ record { keys = Over s; maps = maps_of s } → keys ≡ first.keys → start_of keys ≡ tables
+begun_at is made same = ap start_of (same ∙ ap (λ (p : Parted). p.keys) made) ∙ is
 
 -- what is neither pending nor open is closed
 settled : (x : Standing) → is_open x ≡ false → is_pending x ≡ false → is_closed x ≡ true

@@ -1,5 +1,4 @@
 pub mod Alike
-pub mod Begun
 pub mod Behind
 pub mod CarriedAlone
 pub mod Closing

@@ -13,7 +13,6 @@ use Rattle.gw_table.specs.Stored.{Stored, maps_of, is_ready, has_entry, AreAsRea
 use Rattle.gw_table.proofs.PartLookups.{term-cut, ctx-cut, term-overlaid, ctx-overlaid}
 use Rattle.gw_table.proofs.Swept.{both_or_none, entry_ready, still_swept}
 use Rattle.gw_table.proofs.Undone.{entry-undone}
-use Rattle.gw_board.specs.Alone.{TakesLast, Off, Fresh}
 use Rattle.gw_board.specs.BoardView.{NoneIsSpare}
 use Rattle.gw_board.specs.Boards.{Seen, Handed, HasOpen, core_of, job_of, undo_step_in, with_open, with_result, outcome_of}
 use Rattle.gw_board.specs.Carried.{BurstRequest}
@@ -39,12 +38,6 @@ or_none false = refl
 journal_more : (undo_log : List UndoStep) (o : UndoStep) (k : Key) → in_journal (undo_log ++ o ∷ []) k ≡ (in_journal undo_log k || has o.keys k)
 journal_more [] o k = or_none (has o.keys k)
 journal_more (p ∷ ps) o k = ap (λ b. has p.keys k || b) (journal_more ps o k) ∙ one_more (has p.keys k) (in_journal ps k) (has o.keys k)
-
--- an original without keys that was taken off
-took_journal : (before after : List UndoStep) (last : UndoStep) → TakesLast before after last → last.keys ≡ [] → (k : Key) → in_journal after k ≡ false → in_journal before k ≡ false
-took_journal before after last (Off e) none k h =
-    ap (λ (l : List UndoStep). in_journal l k) e ∙ journal_more after last k ∙ ap (λ b. b || has last.keys k) h ∙ ap (λ (l : List Key). has l k) none
-took_journal before after last (Fresh e f) none k h = ap (λ (l : List UndoStep). in_journal l k) (sym e) ∙ h
 
 -- each key of the journal was swept
 among : (undo_log : List UndoStep) (t : Stored) → Each (λ o. AreSweptAmong o.keys t) undo_log → (k : Key) → in_journal undo_log k ≡ true → is_ready t k ≡ has_entry (maps_of t) k
@@ -98,12 +91,11 @@ result_spare b h o s t part same maps spare swept k j u r =
     ap (λ m. has_entry m k) maps ∙ entry_overlaid h.keys part (maps_of s) k old.1
     ∙ spare swept k old.0 (was_out b.places h.place x o.stands k ∙ ap (λ y. y || has (out (others b.places h.place x o.stands)) k) old.1 ∙ beside) (sym (same k) ∙ r)
 
-pub alone_spare : (b : Seen) → NothingIsOpen (core_of b) → (front : List UndoStep) (earlier ws : List Write) (s t : Stored) → TakesLast b.undo_log front (undo_step_of_writes earlier) → earlier ≡ []
-    → NoOtherReady (keys_written ws) s t → taken ws (maps_of t) ≡ maps_of s → NoneIsSpare b.start s b.undo_log b.places → (places : List Place) → NoneIsSpare b.start t (front ++ undo_step_of_writes ws ∷ []) places
-alone_spare b nothing front earlier ws s t last none alone back spare places swept k j o r =
-    let parts = neither (in_journal front k) (has (keys_written ws) k) (sym (journal_more front (undo_step_of_writes ws) k) ∙ j) in
-    sym (entry-undone ws (maps_of t) k parts.1) ∙ ap (λ m. has_entry m k) back
-    ∙ spare swept k (took_journal b.undo_log front (undo_step_of_writes earlier) last (ap keys_written none) k parts.0) (out_of_none b.places nothing k) (alone k parts.1 r)
+pub alone_spare : (b : Seen) → NothingIsOpen (core_of b) → (ws : List Write) (s t : Stored) → NoOtherReady (keys_written ws) s t → taken ws (maps_of t) ≡ maps_of s
+    → NoneIsSpare b.start s b.undo_log b.places → (places : List Place) → NoneIsSpare b.start t (b.undo_log ++ undo_step_of_writes ws ∷ []) places
+alone_spare b nothing ws s t alone back spare places swept k j o r =
+    let parts = neither (in_journal b.undo_log k) (has (keys_written ws) k) (sym (journal_more b.undo_log (undo_step_of_writes ws) k) ∙ j) in
+    sym (entry-undone ws (maps_of t) k parts.1) ∙ ap (λ m. has_entry m k) back ∙ spare swept k parts.0 (out_of_none b.places nothing k) (alone k parts.1 r)
 
 pub finished : (start s t : Stored) (undo_log : List UndoStep) (places : List Place) (all : Bool) → maps_of t ≡ maps_of s → ((k : Key) → has (out places) k ≡ false) → KeepReady t s
     → (all ≡ true → AreSwept t) → Each (λ o. AreSweptAmong o.keys t) undo_log → (all ≡ false → NoneIsSpare start s undo_log places) → AreSwept start → AreSwept t

@@ -1,12 +1,11 @@
 -- Places that are executed one after another (own): the first that is not closed, and what stays.
-use Rattle.std.specs.Prelude.{◌≡◌, ℕ, Bool, true, false, not, List, [], ◌∷◌, ◌++◌, take, drop, slice_get, Option, None, Some}
+use Rattle.std.specs.Prelude.{◌≡◌, ℕ, Bool, true, false, not, List, take, drop, slice_get, Option, None, Some}
 use Rattle.gw_base.specs.declared.key.Key.TheVariants.{Whole}
 use Rattle.gw_base.specs.Keys.{has}
 use Rattle.gw_table.specs.Maps.{Maps}
 use Rattle.gw_board.specs.Boards.{is_closed, AllClosed}
 use Rattle.gw_board.specs.Carried.{keys_of}
 use Rattle.gw_board.specs.Core.{Place}
-use Rattle.gw_board.specs.Journal.{UndoStep, no_undo_step}
 
 -- there is a place, and it is not closed
 abbrev pub is_unclosed_at : Option Place → Bool
@@ -31,10 +30,3 @@ IsWholeTable p = (m : Maps) → has (keys_of p.requested m) Whole ≡ true
 pub record AreSameBeside (first end : ℕ) (before after : List Place) : Type 0 where
   pub front : take first after ≡ take first before
   pub behind : drop end after ≡ drop end before
-
--- ---- undo steps that are gone on with
-
--- the last undo step was taken off the journal; or the journal is as it was, and the undo step is that of no change
-pub data TakesLast (before after : List UndoStep) (last : UndoStep) : Type 0 where
-  Off : before ≡ after ++ last ∷ [] → TakesLast before after last
-  Fresh : after ≡ before → last ≡ no_undo_step → TakesLast before after last

@@ -33,10 +33,6 @@ led o m = led_by o.way o.keys m
 abbrev pub in_journal : List UndoStep → Key → Bool
 in_journal undo_log k = list_any (λ o. has o.keys k) undo_log
 
--- that of no change
-abbrev pub no_undo_step : UndoStep
-no_undo_step = record { keys = []; way = Taken [] }
-
 abbrev pub undo_step_of : {profile : Profile} {s t : Core} → Event profile s t → List UndoStep
 undo_step_of (Open i a keys may is) = []
 undo_step_of (Draw worker i a j may is) = []

@@ -1,6 +1,6 @@
 //! Executing places one after another, on the tables where they lie.
 
-ghost use Rattle.std.specs.Prelude.{◌≡◌, ◌+◌, ◌<◌, ◌≤◌, ℕ, true, false, not, [], length, map, take, drop, vec_len, Decides, IfSome, IsSomeAnd, IsTrue, OnErr, OnOk, slice_get};
+ghost use Rattle.std.specs.Prelude.{◌≡◌, ◌+◌, ◌<◌, ◌≤◌, true, false, not, map, take, drop, vec_len, Decides, IfSome, IsSomeAnd, IsTrue, OnErr, OnOk, slice_get};
 ghost use Rattle.std.specs.List.{list_any};
 ghost use Rattle.gw_table.specs.Parts.{Over, start_of};
 ghost use Rattle.gw_table.specs.Stored.{Stored};
@@ -15,13 +15,13 @@ ghost use Rattle.gw_board.specs.BoardEntries.{standing_of, place_of};
 use crate::board::Board;
 use crate::board_entry::{BoardEntry, Stage, all_pending, set_stage};
 use crate::job::carry_on;
-use crate::journal::{last_alone, put_all_back};
+use crate::journal::put_all_back;
 use crate::profile::Profile;
 use crate::requested::{Task, is_seen_for_all};
 use crate::undo_step::UndoStep;
 use gw_base::{Items, NoMemory};
 use gw_draw::{Gate, OpenGate};
-use gw_table::{Draft, Tables, UndoLog};
+use gw_table::{Draft, Tables};
 use std::alloc::Global;
 use std::mem;
 use std::ops::Range;
@@ -39,14 +39,6 @@ fn any_unclosed(board_entries: &[BoardEntry<'_, '_, '_>]) -> bool
     board_entries
         .iter()
         .any(|board_entry| !is_closed(board_entry))
-}
-
-/// Whether a log is continued, or all keys are swept anyway: then keys may be prepared that it does not have.
-fn continues(sweeps_all: bool, earlier: &UndoLog) -> bool
-    ensures before { result ≡ false → sweeps_all ≡ false }
-    ensures none { result ≡ false → earlier.now ≡ [] }
-{
-    sweeps_all || !earlier.is_empty()
 }
 
 /// What a place requests, if it is pending.
@@ -140,9 +132,9 @@ impl Board<'_, '_, '_> {
         }
     }
 
-    /// Executes what is pending of a range of places, one after another, on one draft of the tables where they lie,
-    /// which goes on with the undo log of the places that were executed so last. The caller knows that nothing is open,
-    /// that all earlier places are closed, and that the first of these is pending.
+    /// Executes what is pending of a range of places, one after another, on one draft of the tables where they lie, whose
+    /// undo log goes to the journal. The caller knows that nothing is open, that all earlier places are closed, and that
+    /// the first of these is pending.
     ///
     /// # Errors
     ///
@@ -165,9 +157,7 @@ impl Board<'_, '_, '_> {
         ensures err { OnErr result (self.new ≡ begun_board self.old.profile (requested_in self.old.places) self.old.start) }
     {
         let tables = mem::replace(&mut self.tables, Tables::new(alloc));
-        let earlier = last_alone(alloc, &mut self.undo_log);
-        self.sweeps_all = continues(self.sweeps_all, &earlier);
-        let mut draft = Draft::of_tables(tables, earlier);
+        let mut draft = Draft::of_tables(alloc, tables);
         let Ok(()) = carry_each(
             alloc,
             &self.profile,
@@ -191,9 +181,9 @@ impl Board<'_, '_, '_> {
 
     /// Executes the first place that is not closed, on the tables where they lie, and closes it with its reply: what
     /// opening the place, executing its job and closing it with the result come to. No footprint is gathered, and no
-    /// entry is taken out: what stood where the commands write goes to the journal, once for each key of the places
-    /// that are executed so one after another. So the work is that of the commands. The caller knows that nothing is
-    /// open, that all earlier places are closed, and that this one is pending.
+    /// entry is taken out: what stood where the commands write goes to the journal, once for each key. So the work is
+    /// that of the commands. The caller knows that nothing is open, that all earlier places are closed, and that this
+    /// one is pending.
     ///
     /// # Errors
     ///

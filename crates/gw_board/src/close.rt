@@ -114,8 +114,8 @@ impl<'b, 'h, 'a> Board<'b, 'h, 'a> {
     /// The tables, and the texts of the replies in the order of the places: what executing the requests one after
     /// another gives, on the tables that the board was made with. The caller knows that every place is closed with a
     /// reply. Where each prepared key had an entry then, each has one now: the work is a look-up for each key of the
-    /// journal, or one pass over all rows, where places that were executed alone wrote many keys, where their log was
-    /// continued, or where a job was closed unchanged.
+    /// journal, or one pass over all rows, where places that were executed alone wrote many keys, or where a job was
+    /// closed unchanged.
     pub fn finish(self) -> (Tables, Vec<Items<u8>>)
         requires { AllClosed self.places }
         ensures maps { maps_of result.0 ≡ (carried self.entry.profile (requested_in self.entry.places) (maps_of self.entry.start)).maps }

@@ -1,34 +1,12 @@
 //! The journal: the undo steps of the places that are closed with a result, in the order of closing.
 
-ghost use Rattle.std.specs.Prelude.{◌≡◌, ◌≤◌, [], vec_len, vec_capacity};
+ghost use Rattle.std.specs.Prelude.{◌≡◌, [], vec_capacity};
 ghost use Rattle.gw_table.specs.Stored.{maps_of, AreReady, AreSwept, NoneIsOut};
-ghost use Rattle.gw_board.specs.Alone.{TakesLast};
 ghost use Rattle.gw_board.specs.Fitting.{Each};
 ghost use Rattle.gw_board.specs.Journal.{undone};
-ghost use Rattle.gw_board.specs.BoardEntries.{undo_step_of_writes};
 
 use crate::undo_step::UndoStep;
-use gw_table::{Tables, UndoLog};
-use std::alloc::Global;
-
-/// Takes the undo steps of the places that were executed alone last off the journal, to go on with them. Where the last
-/// place was a job's, or there is none, they are those of no change.
-pub(crate) fn last_alone(alloc: Global, undo_log: &mut Vec<UndoStep>) -> UndoLog
-    ensures last { TakesLast undo_log.old.items undo_log.new.items (undo_step_of_writes result) }
-    ensures len { vec_len undo_log.new ≤ vec_len undo_log.old }
-    ensures capacity { vec_capacity undo_log.old ≤ vec_capacity undo_log.new }
-{
-    let Some(last) = undo_log.pop() else {
-        return UndoLog::new(alloc);
-    };
-    match last.into_writes() {
-        Ok(writes) => writes,
-        Err(last) => {
-            undo_log.push_reserved(last);
-            UndoLog::new(alloc)
-        }
-    }
-}
+use gw_table::Tables;
 
 /// Takes all undo steps back, the last one first. Then a key without an entry is prepared no more. The caller knows
 /// that nothing is out, and that each of the keys of the undo steps has a place.

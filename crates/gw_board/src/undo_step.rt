@@ -1,6 +1,6 @@
 //! What stood in the tables before a place was closed with its result.
 
-ghost use Rattle.std.specs.Prelude.{◌≡◌, IfOk, IfErr};
+ghost use Rattle.std.specs.Prelude.{◌≡◌};
 ghost use Rattle.gw_board.specs.Journal.{led};
 ghost use Rattle.gw_board.specs.BoardEntries.{undo_step_of_part, undo_step_of_writes};
 ghost use Rattle.gw_table.specs.Stored.{maps_of, AreReady, AreIn, AreAsReady, AreAsOut, AreSweptAmong, KeepReady, NoneIsOut};
@@ -52,18 +52,6 @@ impl UndoStep {
     {
         UndoStep {
             stood: Stood::OfWrites(undo_log),
-        }
-    }
-
-    /// What writes found, where the place was executed alone; else it comes back.
-    pub(crate) fn into_writes(self) -> Result<UndoLog, UndoStep>
-        ensures ok { IfOk result (λ undo_log. undo_step_of_writes undo_log ≡ self) }
-        ensures err { IfErr result (λ undo_step. undo_step ≡ self) }
-    {
-        let UndoStep { stood } = self;
-        match stood {
-            Stood::OfWrites(undo_log) => Ok(undo_log),
-            Stood::OfJob(part) => Err(UndoStep::of_job(part)),
         }
     }
 

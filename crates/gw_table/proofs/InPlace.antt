@@ -20,19 +20,18 @@ use Rattle.gw_table.specs.declared.row.Found.{Found}
 use Rattle.gw_table.specs.declared.row.Found.TheVariants.{Logged, Unlogged}
 use Rattle.gw_table.specs.Found.{IsFound, unlogged_of}
 use Rattle.gw_table.specs.KeptSettings.{IsKept, MayKeep}
-use Rattle.gw_table.specs.Maps.{number, term, ctx, put_term, put_ctx}
+use Rattle.gw_table.specs.Maps.{number, term, ctx, put_ctx}
 use Rattle.gw_table.specs.Members.{put_service}
-use Rattle.gw_table.specs.UndoLog.{keys_written, without_write, undone, begun_by, before_all, has_properties, IsInPlace}
-use Rattle.gw_table.specs.Settings.{with_setting, put_setting, set_at, set_place}
-use Rattle.gw_table.specs.Stored.{Stored, visible, placed, has_left, maps_of, is_ready, put_term_place, put_ctx_place, with_service, without_ctx, NoneIsOut, AreReady, KeepReady, NoOtherReady}
+use Rattle.gw_table.specs.UndoLog.{keys_written, undone, has_properties, IsInPlace}
+use Rattle.gw_table.specs.Settings.{put_setting, set_at}
+use Rattle.gw_table.specs.Stored.{Stored, visible, has_left, maps_of, is_ready, put_term_place, put_ctx_place, with_service, without_ctx, AreReady, KeepReady, NoOtherReady}
 use Rattle.gw_table.proofs.Leaving.{put_ctx-same}
 use Rattle.gw_table.proofs.Moved.{has-pushed}
 use Rattle.gw_base.proofs.NameTests.{same_name, same_number}
-use Rattle.gw_base.proofs.NamesInLists.{or_left, or_right}
+use Rattle.gw_base.proofs.NamesInLists.{or_left}
 use Rattle.gw_table.proofs.Lookups.{ctx-put_ctx, term-put_ctx}
-use Rattle.gw_table.proofs.Places.{got_term, got_ctx, ctx-maps_of, maps-put_term_place, maps-put_ctx_place, shown_placed, in-put_term, in-put_ctx}
+use Rattle.gw_table.proofs.Places.{got_term, got_ctx, ctx-maps_of, maps-put_term_place, maps-put_ctx_place, in-put_term, in-put_ctx}
 use Rattle.gw_table.proofs.SettingLookups.{with_it}
-use Rattle.gw_table.proofs.Settings.{maps-set_place}
 use Rattle.gw_table.proofs.Undone.{undone_more, keys_more, undone_term, undone_ctx, undone_term_again, undone_ctx_again, settled, settled_so, undone_beside}
 
 pub same_in_place : (start old now : Stored) (ws vs : List Write) → now ≡ old → vs ≡ ws → IsInPlace start old ws → IsInPlace start now vs
@@ -122,59 +121,6 @@ alone-put_term s t p k h r = this_or_other (same_key k (Term t)) (is_ready s k �
 
 alone-put_ctx : (s : Stored) (n : CtxNum) (p : Place ContextRecord) → NoOtherReady (Ctx n ∷ []) s (put_ctx_place s n p)
 alone-put_ctx s n p k h r = this_or_other (same_key k (Ctx n)) (is_ready s k ≡ true) (λ f. absurd (let clash : true ≡ false = sym (or_left (same_key k (Ctx n)) false f) ∙ h in cc)) (λ f. other_ctx s n p k f r)
-
--- ---- where changes began
-
-by_maps : (w : Write) (s : Stored) → maps_of (begun_by w s) ≡ without_write w (maps_of s)
-by_maps (OfTerm t o) s = maps-put_term_place s t (placed o) ∙ ap (put_term (maps_of s) t) (shown_placed o)
-by_maps (OfCtx n o) s = maps-put_ctx_place s n (placed o) ∙ ap (put_ctx (maps_of s) n) (shown_placed o)
-by_maps (OfProperties n p e) s = maps-set_place (Both p e) n s (ctx (maps_of s) n)
-
-pub maps_before_all : (ws : List Write) (s : Stored) → maps_of (before_all ws s) ≡ undone ws (maps_of s)
-maps_before_all [] s = refl
-maps_before_all (w ∷ ws) s = by_maps w (before_all ws s) ∙ ap (without_write w) (maps_before_all ws s)
-
--- a context that stands has a place
-has_place : (s : Stored) (n : CtxNum) (o : Option ContextRecord) (x : Setting) → o ≡ ctx (maps_of s) n → KeepReady (set_place x n s o) s
-has_place s n None x e k h = h
-has_place s n (Some c) x e k h = had_ctx s n (Here (with_setting x c)) (some (finite.get s.contexts n.0) (e ∙ ctx-maps_of s n)) k h
-  where
-    some : (o : Option (Place ContextRecord)) → Some c ≡ visible o → is_some o ≡ true
-    some None g = absurd cc
-    some (Some p) g = refl
-
--- no key but these has got a place
-no_other : (ws : List Write) (s : Stored) → AreReady (keys_written ws) s → KeepReady (before_all ws s) s
-no_other [] s ready k h = h
-no_other (OfTerm t o ∷ ws) s ready k h = this_or_other (same_key k (Term t)) (is_ready s k ≡ true)
-    (λ e. ready k (or_left (same_key k (Term t)) (has (keys_written ws) k) e))
-    (λ e. no_other ws s (λ q g. ready q (or_right (same_key q (Term t)) (has (keys_written ws) q) g)) k (other_term (before_all ws s) t (placed o) k e h))
-no_other (OfCtx n o ∷ ws) s ready k h = this_or_other (same_key k (Ctx n)) (is_ready s k ≡ true)
-    (λ e. ready k (or_left (same_key k (Ctx n)) (has (keys_written ws) k) e))
-    (λ e. no_other ws s (λ q g. ready q (or_right (same_key q (Ctx n)) (has (keys_written ws) q) g)) k (other_ctx (before_all ws s) n (placed o) k e h))
-no_other (OfProperties n p e ∷ ws) s ready k h =
-    no_other ws s (λ q g. ready q (or_right (same_key q Whole) (has (keys_written ws) q) g)) k (has_place (before_all ws s) n (ctx (maps_of (before_all ws s)) n) (Both p e) refl k h)
-
--- what was prepared before is so
-keep_set : (s : Stored) (n : CtxNum) (x : Setting) (o : Option ContextRecord) → KeepReady s (set_place x n s o)
-keep_set s n x None k h = h
-keep_set s n x (Some c) k h = keep-put_ctx s n (Here (with_setting x c)) k h
-
-pub begun_ready : (ws : List Write) (s : Stored) → KeepReady s (before_all ws s)
-begun_ready [] s k h = h
-begun_ready (OfTerm t o ∷ ws) s k h = keep-put_term (before_all ws s) t (placed o) k (begun_ready ws s k h)
-begun_ready (OfCtx n o ∷ ws) s k h = keep-put_ctx (before_all ws s) n (placed o) k (begun_ready ws s k h)
-begun_ready (OfProperties n p e ∷ ws) s k h = keep_set (before_all ws s) n (Both p e) (ctx (maps_of (before_all ws s)) n) k (begun_ready ws s k h)
-
--- earlier changes are continued
-pub gone_on : (s : Stored) (ws : List Write) → NoneIsOut s → AreReady (keys_written ws) s → IsInPlace (before_all ws s) s ws
-gone_on s ws here ready = record {
-  here = here;
-  back = sym (maps_before_all ws s);
-  places = ready;
-  kept = no_other ws s ready;
-  alone = λ k h r. begun_ready ws s k r;
-}
 
 -- ---- one more write
 

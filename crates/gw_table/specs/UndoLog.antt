@@ -8,8 +8,8 @@ use Rattle.gw_table.specs.declared.undo_log.Write.{Write}
 use Rattle.gw_table.specs.declared.undo_log.Write.TheVariants.{OfTerm, OfCtx, OfProperties}
 use Rattle.gw_table.specs.declared.setting.Setting.TheVariants.{Both}
 use Rattle.gw_table.specs.Maps.{Maps, ctx, put_term, put_ctx}
-use Rattle.gw_table.specs.Settings.{put_setting, set_place}
-use Rattle.gw_table.specs.Stored.{Stored, placed, maps_of, put_term_place, put_ctx_place, AreReady, KeepReady, NoOtherReady, NoneIsOut}
+use Rattle.gw_table.specs.Settings.{put_setting}
+use Rattle.gw_table.specs.Stored.{Stored, maps_of, AreReady, KeepReady, NoOtherReady, NoneIsOut}
 
 -- the key that was written; where properties alone were logged, none that names an entry
 abbrev pub key_written : Write → Key
@@ -32,17 +32,6 @@ without_write (OfProperties n p e) m = put_setting (Both p e) n m (ctx m n)
 abbrev pub undone : List Write → Maps → Maps
 undone [] m = m
 undone (w ∷ later) m = without_write w (undone later m)
-
--- the tables without a write, with a place for its key
-abbrev pub begun_by : Write → Stored → Stored
-begun_by (OfTerm t o) s = put_term_place s t (placed o)
-begun_by (OfCtx n o) s = put_ctx_place s n (placed o)
-begun_by (OfProperties n p e) s = set_place (Both p e) n s (ctx (maps_of s) n)
-
--- the tables that writes lead back to: those in which they began
-abbrev pub before_all : List Write → Stored → Stored
-before_all [] s = s
-before_all (w ∷ later) s = begun_by w (before_all later s)
 
 -- ---- properties that are logged
 

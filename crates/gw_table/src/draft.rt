@@ -7,7 +7,7 @@ ghost use Rattle.gw_base.specs.declared.key.Key.TheVariants.{Term, Ctx};
 ghost use Rattle.gw_base.specs.NameLists.{is_in};
 ghost use Rattle.gw_table.specs.Maps.{term, ctx, put_term, put_ctx, names, numbers, members_of};
 ghost use Rattle.gw_table.specs.Members.{put_service, with_member, without_member};
-ghost use Rattle.gw_table.specs.UndoLog.{before_all, keys_written, undone};
+ghost use Rattle.gw_table.specs.UndoLog.{keys_written, undone};
 ghost use Rattle.gw_table.specs.Parts.{Over, Only, list_of, start_of, holds};
 ghost use Rattle.gw_table.specs.Stored.{maps_of, NoneIsOut, AreReady, KeepReady, NoOtherReady};
 
@@ -57,15 +57,13 @@ impl Model for Draft {
 }
 
 impl Draft {
-    /// Whole tables, with the undo log of earlier changes, or of none. The caller knows that nothing is out, and that
-    /// each key of the log has a place. It takes no memory.
-    pub fn of_tables(tables: Tables, undo_log: UndoLog) -> Draft
-        requires here { NoneIsOut tables }
-        requires ready { AreReady (keys_written undo_log) tables }
-        ensures { result ≡ record { keys = Over (before_all undo_log tables); maps = maps_of tables } }
+    /// Whole tables, with an undo log that begins here. The caller knows that nothing is out. It takes no memory.
+    pub fn of_tables(alloc: Global, tables: Tables) -> Draft
+        requires { NoneIsOut tables }
+        ensures { result ≡ record { keys = Over tables; maps = maps_of tables } }
     {
         Draft {
-            backing: Backing::OfTables(InPlace::new(tables, undo_log)),
+            backing: Backing::OfTables(InPlace::new(alloc, tables)),
         }
     }
 
@@ -328,8 +326,7 @@ impl Draft {
     }
 
     /// A draft of whole tables as the tables that it left, with what stood there before: the writes, taken back, give
-    /// the tables in which the changes began, those of the log that was continued among them. What is prepared was so
-    /// then, or was written. It takes no memory.
+    /// the tables in which the changes began. What is prepared was so then, or was written. It takes no memory.
     pub fn into_tables(self) -> (Tables, UndoLog)
         requires { self.keys ≡ Over (start_of self.keys) }
         ensures maps { maps_of result.0 ≡ self.maps }

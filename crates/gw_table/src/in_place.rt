@@ -3,7 +3,7 @@
 ghost use Rattle.std.specs.Prelude.{◌≡◌, None, IfOk, OnOk, OnErr};
 ghost use Rattle.gw_table.specs.Maps.{term, ctx, put_term, put_ctx};
 ghost use Rattle.gw_table.specs.Members.{put_service};
-ghost use Rattle.gw_table.specs.UndoLog.{before_all, keys_written, undone};
+ghost use Rattle.gw_table.specs.UndoLog.{keys_written, undone};
 ghost use Rattle.gw_table.specs.Parts.{Over, start_of};
 ghost use Rattle.gw_table.specs.Stored.{maps_of, NoneIsOut, AreReady, KeepReady, NoOtherReady};
 
@@ -21,13 +21,11 @@ use std::snapshot::Snapshot;
 
 /// Tables that are changed in place, with an undo log: the first write of each key is logged with what stood there,
 /// and taking the log back needs no memory. A look-up is one in the tables, and a write takes one. The log has one
-/// write for each key, however often it is written, and the properties of a context that were set before. Where the
-/// log of earlier changes is continued, it leads back to where those began.
+/// write for each key, however often it is written, and the properties of a context that were set before.
 pub(crate) struct InPlace {
     pub(crate) tables: Tables,
     pub(crate) writes: Vec<Write>,
     before: Snapshot<Tables>,
-    earlier: Snapshot<UndoLog>,
 }
 
 // By hand, so that a function that drops it does so by one call. A derived one would stand in it field by field.
@@ -37,13 +35,12 @@ impl Drop for InPlace {
             tables: _,
             writes: _,
             before: _,
-            earlier: _,
         } = self;
     }
 }
 
 impl Model for InPlace {
-    ghost use Rattle.gw_table.specs.UndoLog.{before_all, IsInPlace};
+    ghost use Rattle.gw_table.specs.UndoLog.{IsInPlace};
     ghost use Rattle.gw_table.specs.Parts.{Parted, Over, coded_part};
     ghost use Rattle.gw_table.specs.Stored.{maps_of};
 
@@ -51,26 +48,22 @@ impl Model for InPlace {
 
     ghost coded = { coded_part };
 
-    ghost view = { λ a. record { keys = Over (before_all a.earlier.value a.before.value); maps = maps_of a.tables } };
+    ghost view = { λ a. record { keys = Over a.before.value; maps = maps_of a.tables } };
 
-    ghost invariant = { λ a. IsInPlace (before_all a.earlier.value a.before.value) a.tables a.writes.items };
+    ghost invariant = { λ a. IsInPlace a.before.value a.tables a.writes.items };
 }
 
 impl InPlace {
-    /// Tables, with the undo log of earlier changes.
-    pub(crate) fn new(tables: Tables, undo_log: UndoLog) -> InPlace
-        requires here { NoneIsOut tables }
-        requires ready { AreReady (keys_written undo_log) tables }
-        ensures { result ≡ record { keys = Over (before_all undo_log tables); maps = maps_of tables } }
+    /// Tables, with an undo log that begins here.
+    pub(crate) fn new(alloc: Global, tables: Tables) -> InPlace
+        requires { NoneIsOut tables }
+        ensures { result ≡ record { keys = Over tables; maps = maps_of tables } }
     {
         let before = Snapshot::of(&tables);
-        let earlier = Snapshot::of(&undo_log);
-        let UndoLog { writes } = undo_log;
         InPlace {
             tables,
-            writes,
+            writes: Vec::new(alloc),
             before,
-            earlier,
         }
     }
 
@@ -166,7 +159,6 @@ impl InPlace {
             tables,
             writes,
             before: _,
-            earlier: _,
         } = self;
         (tables, UndoLog { writes })
     }
@@ -181,7 +173,6 @@ impl InPlace {
             mut tables,
             writes,
             before: _,
-            earlier: _,
         } = self;
         tables.take_all_back(writes);
         tables

@@ -1,6 +1,6 @@
 //! What stood at keys of tables before they were written: an undo log.
 
-ghost use Rattle.std.specs.Prelude.{◌≡◌, ◌<◌, true, false, Decides, [], ◌∷◌, OnOk, vec_len, vec_capacity};
+ghost use Rattle.std.specs.Prelude.{◌≡◌, ◌<◌, true, false, [], ◌∷◌, OnOk, vec_len, vec_capacity};
 ghost use Rattle.gw_base.specs.Keys.{same_key};
 ghost use Rattle.gw_table.specs.UndoLog.{key_written, keys_written, logs_properties, without_write, undone};
 ghost use Rattle.gw_table.specs.Stored.{maps_of, is_ready, is_out, AreReady, AreIn, AreAsReady, AreAsOut, AreSweptAmong, KeepReady, NoneIsOut, WereSwept};
@@ -12,7 +12,6 @@ use crate::tables::Tables;
 use gw_base::{CtxNum, Key, NoMemory, TermName};
 use gw_ctx::Context;
 use gw_term::Termination;
-use std::alloc::Global;
 use std::marker::Model;
 
 /// From how many writes on one pass over all rows may be less work than look-ups.
@@ -101,24 +100,6 @@ impl Model for UndoLog {
     ghost Value = { List Write };
 
     ghost view = { λ a. a.writes.items };
-}
-
-impl UndoLog {
-    /// Those of no change, which take no memory.
-    pub fn new(alloc: Global) -> UndoLog
-        ensures { result ≡ [] }
-    {
-        UndoLog {
-            writes: Vec::new(alloc),
-        }
-    }
-
-    /// Whether nothing was written.
-    pub fn is_empty(&self) -> bool
-        ensures { Decides result (self.now ≡ []) }
-    {
-        self.writes.is_empty()
-    }
 }
 
 impl Tables {

@@ -3,7 +3,7 @@ use Rattle.std.specs.Prelude.{◌&&◌, slice_get}
 use Rattle.gw_table.specs.Maps.{Maps}
 use Rattle.gw_table.specs.declared.undo_log.Write.{Write}
 use Rattle.gw_table.specs.UndoLog.{keys_written, undone as taken}
-use Rattle.gw_table.specs.Parts.{Parted}
+use Rattle.gw_table.specs.Parts.{Parted, start_of}
 use Rattle.gw_table.specs.Stored.{Stored, maps_of, names_entry, AreReady, KeepReady, NoOtherReady, NoneIsOut}
 use Rattle.gw_board.specs.BoardView.{value_of, IsOnTheWay, IsKeptIn, NoneIsSpare}
 use Rattle.gw_board.specs.Boards.{Seen, requested_in, begun_board, core_of, is_pending_at, AllClosed, unclosed}
@@ -17,10 +17,8 @@ use Rattle.gw_board.specs.Journal.{UndoStep, undone}
 use Rattle.gw_board.specs.OpenJobs.{IsSameBurst}
 use Rattle.gw_board.specs.Results.{NothingIsOpen}
 use Rattle.gw_board.specs.BoardEntries.{place_of, undo_step_of_writes}
-use Rattle.gw_board.proofs.Begun.{alone_since, kept_since, start_maps}
-use Rattle.gw_board.proofs.CarriedAlone.{took_back, took_ready}
 use Rattle.gw_board.proofs.Comes.{out_of_none}
-use Rattle.gw_board.proofs.GoingOn.{fewer_behind, first_left, left_behind, led_behind, led_from, none_pending, with_journal}
+use Rattle.gw_board.proofs.GoingOn.{begun_at, fewer_behind, first_left, left_behind, led_behind, led_from, none_pending, with_journal}
 use Rattle.gw_board.proofs.Joining.{candidates_beside}
 use Rattle.gw_board.proofs.KeptIn.{all_ready, begun_kept, none_out}
 use Rattle.gw_board.proofs.OnTheWay.{requested-pending, begun_way, gives_the_fold}
@@ -42,17 +40,11 @@ first_here b now i e h pends = subst (λ (x : Seen). unclosed (drop (i + 1) x.pl
 started : (b : Seen) → IsOnTheWay b → NothingIsOpen (core_of b) → (maps : Maps) → maps ≡ b.maps → MayGoOn b.profile b.start maps b.places
 started b w none maps e = subst (λ (m : Maps). MayGoOn b.profile b.start m b.places) (sym e) (record { undo_log = b.undo_log; way = w; none = none })
 
-pub of_tables-draft-requires-clause-here : goal.of_tables-draft-requires-clause-here
-of_tables-draft-requires-clause-here g c =
+pub of_tables-draft-requires : goal.of_tables-draft-requires
+of_tables-draft-requires g c =
     let b : Seen = value_of c.self.inside in
     subst NoneIsOut (sym c.replace-tables.ensures.value)
     (none_out b c.self.inside.tables c.self.invariant.kept (none_here b c.args.self.now c.self.view_is c.requires.«open»))
-
-pub of_tables-draft-requires-clause-ready : goal.of_tables-draft-requires-clause-ready
-of_tables-draft-requires-clause-ready g c =
-    let b : Seen = value_of c.self.inside in
-    subst (AreReady (keys_written c.last_alone-earlier.result)) (sym c.replace-tables.ensures.value)
-    (took_ready b.undo_log c.last_alone-earlier.new.undo_log.items (undo_step_of_writes c.last_alone-earlier.result) c.last_alone-earlier.ensures.last c.self.inside.tables c.self.invariant.kept.ready).1
 
 pub carry_each-requires-clause-goes_on : goal.carry_each-requires-clause-goes_on
 carry_each-requires-clause-goes_on g c κs within =
@@ -65,19 +57,12 @@ carry_each-requires-clause-goes_on g c κs within =
 pub put_all_back-requires-clause-ready : goal.put_all_back-requires-clause-ready
 put_all_back-requires-clause-ready g c =
     let b : Seen = value_of c.self.inside in
-    let after : List UndoStep = c.last_alone-earlier.new.undo_log.items in
-    all_ready after c.self.inside.tables c.undone.result (kept_since c.replace-tables.ensures.value c.last_alone-earlier.result c.of_tables-draft.ensures c.carry_each.ensures.keys c.undone.result c.undone.ensures.kept)
-    (took_ready b.undo_log after (undo_step_of_writes c.last_alone-earlier.result) c.last_alone-earlier.ensures.last c.self.inside.tables c.self.invariant.kept.ready).0
+    let begun = begun_at c.replace-tables.ensures.value c.of_tables-draft.ensures c.carry_each.ensures.keys in
+    all_ready b.undo_log c.self.inside.tables c.undone.result (subst (λ (s : Stored). KeepReady s c.undone.result) begun c.undone.ensures.kept) c.self.invariant.kept.ready
 
 module _ (g : Over) (c : After-all_pending g) where
   abbrev before : Seen
   before = value_of c.self.inside
-
-  abbrev earlier : List Write
-  earlier = c.last_alone-earlier.result
-
-  abbrev after : List UndoStep
-  after = c.last_alone-earlier.new.undo_log.items
 
   abbrev back : Stored
   back = c.put_all_back.new.tables
@@ -88,14 +73,10 @@ module _ (g : Over) (c : After-all_pending g) where
   places_are : map place_of c.all_pending.new.board_entries.items ≡ map pending (requested_in before.places)
   places_are = c.all_pending.ensures.places ∙ ap (λ (l : List BurstRequest). map pending l) c.carry_each.ensures.requested
 
-  undone_maps : maps_of c.undone.result ≡ taken earlier before.maps
-  undone_maps = c.undone.ensures.maps ∙ start_maps c.replace-tables.ensures.value earlier c.of_tables-draft.ensures c.carry_each.ensures.keys
-
   maps_begun : maps_of back ≡ (maps_of before.start)
   maps_begun =
       c.put_all_back.ensures.maps
-      ∙ ap (undone after) undone_maps
-      ∙ took_back before.undo_log after (undo_step_of_writes earlier) c.last_alone-earlier.ensures.last before.maps
+      ∙ ap (undone before.undo_log) (c.undone.ensures.maps ∙ ap (λ (s : Stored). maps_of s) (begun_at c.replace-tables.ensures.value c.of_tables-draft.ensures c.carry_each.ensures.keys))
       ∙ led_from before c.self.invariant.on_the_way (none_here before c.args.self.now c.self.view_is c.requires.«open»)
 
   is_begun : left ≡ begun_board before.profile (requested_in before.places) before.start
@@ -114,7 +95,6 @@ invariant_of-self g c =
     let replies = c.self.invariant.room.replies in
     let len = c.all_pending.ensures.len in
     let carried = c.carry_each.ensures.len in
-    let taken = c.last_alone-earlier.ensures.capacity in
     let space = c.put_all_back.ensures.capacity in
     let o = c.put_all_back.new.undo_log.ok.0 in
     let s = c.self.inside.board_entries.ok.0 in
@@ -154,8 +134,6 @@ pub push_reserved-requires : goal.push_reserved-requires
 push_reserved-requires g c =
     let some = first_here (value_of c.self.inside) c.args.self.now c.args.places.start c.self.view_is c.requires.first c.requires.pends in
     let room = c.self.invariant.room.undo_log in
-    let taken = c.last_alone-earlier.ensures.len in
-    let space = c.last_alone-earlier.ensures.capacity in
     omega arith
 
 module _ (g : Over) (c : After-push_reserved g) where
@@ -174,13 +152,6 @@ module _ (g : Over) (c : After-push_reserved g) where
   abbrev found : List Write
   found = c.into_tables-tables.result.1
 
-  abbrev begun_with : List Write
-  begun_with = c.last_alone-earlier.result
-
-  -- the journal before what was found
-  abbrev front : List UndoStep
-  front = c.last_alone-earlier.new.undo_log.items
-
   abbrev last : UndoStep
   last = undo_step_of_writes found
 
@@ -193,49 +164,40 @@ module _ (g : Over) (c : After-push_reserved g) where
   went : MayGoOn b.profile b.start maps places
   went = c.in-Ok.ensures.goes_on b.start (started b way none c.of_tables-draft.result.maps (ap (λ (p : Parted). p.maps) c.of_tables-draft.ensures ∙ ap (λ (s : Stored). maps_of s) c.replace-tables.ensures.value))
 
-  originals_are : c.push_reserved.new.self.items ≡ front ++ last ∷ []
-  originals_are = c.push_reserved.ensures.items ∙ ap (λ (o : UndoStep). front ++ o ∷ []) c.of_writes.ensures
+  undo_log_is : c.push_reserved.new.self.items ≡ b.undo_log ++ last ∷ []
+  undo_log_is = c.push_reserved.ensures.items ∙ ap (λ (o : UndoStep). b.undo_log ++ o ∷ []) c.of_writes.ensures
+
+  begun : start_of c.carry_each.new.draft.keys ≡ c.self.inside.tables
+  begun = begun_at c.replace-tables.ensures.value c.of_tables-draft.ensures c.carry_each.ensures.keys
 
   maps_are : maps_of tables ≡ maps
   maps_are = c.into_tables-tables.ensures.maps
 
-  leads : taken found maps ≡ taken begun_with b.maps
-  leads = ap (taken found) (sym maps_are) ∙ c.into_tables-tables.ensures.back ∙ start_maps c.replace-tables.ensures.value begun_with c.of_tables-draft.ensures c.carry_each.ensures.keys
-
-  led : undone front (taken begun_with b.maps) ≡ (maps_of b.start)
-  led = took_back b.undo_log front (undo_step_of_writes begun_with) c.last_alone-earlier.ensures.last b.maps ∙ led_from b way none
+  leads_back : taken found (maps_of tables) ≡ b.maps
+  leads_back = c.into_tables-tables.ensures.back ∙ ap (λ (s : Stored). maps_of s) begun
 
   abbrev new : Seen
   new = record { profile = b.profile; start = b.start; maps = maps_of tables; places = places; undo_log = c.push_reserved.new.self.items }
 
-  is_new : new ≡ record { profile = b.profile; start = b.start; maps = maps; places = places; undo_log = front ++ last ∷ [] }
-  is_new = λ j. record { profile = b.profile; start = b.start; maps = maps_are j; places = places; undo_log = originals_are j }
+  is_new : new ≡ record { profile = b.profile; start = b.start; maps = maps; places = places; undo_log = b.undo_log ++ last ∷ [] }
+  is_new = λ j. record { profile = b.profile; start = b.start; maps = maps_are j; places = places; undo_log = undo_log_is j }
 
   new_way : IsOnTheWay new
-  new_way = subst IsOnTheWay (sym is_new) (with_journal b.profile b.start maps places went (front ++ last ∷ []) (led_behind front last maps (taken begun_with b.maps) (maps_of b.start) leads led))
+  new_way = subst IsOnTheWay (sym is_new) (with_journal b.profile b.start maps places went (b.undo_log ++ last ∷ []) (led_behind b.undo_log last maps b.maps (maps_of b.start) (ap (taken found) (sym maps_are) ∙ leads_back) (led_from b way none)))
 
-  kept : KeepReady c.self.inside.tables tables
-  kept = kept_since c.replace-tables.ensures.value begun_with c.of_tables-draft.ensures c.carry_each.ensures.keys tables c.into_tables-tables.ensures.kept
-
-  front_ready : Each (λ o. AreReady o.keys tables) front
-  front_ready =
-      all_ready front c.self.inside.tables tables kept
-      (took_ready b.undo_log front (undo_step_of_writes begun_with) c.last_alone-earlier.ensures.last c.self.inside.tables c.self.invariant.kept.ready).0
+  still_ready : Each (λ o. AreReady o.keys tables) b.undo_log
+  still_ready = all_ready b.undo_log c.self.inside.tables tables (subst (λ (s : Stored). KeepReady s tables) begun c.into_tables-tables.ensures.kept) c.self.invariant.kept.ready
 
   new_kept : IsKeptIn tables new
   new_kept = record {
     out = λ k. c.into_tables-tables.ensures.here k ∙ ap (λ x. x && names_entry k) (sym (out_of_none places went.none k));
-    ready = subst (Each (λ o. AreReady o.keys tables)) (sym originals_are) (each_joined (λ o. AreReady o.keys tables) front (last ∷ []) front_ready (c.into_tables-tables.ensures.ready, tt));
+    ready = subst (Each (λ o. AreReady o.keys tables)) (sym undo_log_is) (each_joined (λ o. AreReady o.keys tables) b.undo_log (last ∷ []) still_ready (c.into_tables-tables.ensures.ready, tt));
   }
 
-  new_spare : (begun_with ≡ []) × (c.self.inside.sweeps_all ≡ false) → NoneIsSpare b.start tables c.push_reserved.new.self.items places
+  new_spare : c.self.inside.sweeps_all ≡ false → NoneIsSpare b.start tables c.push_reserved.new.self.items places
   new_spare h =
-      subst (λ (l : List UndoStep). NoneIsSpare b.start tables l places) (sym originals_are)
-      (alone_spare b none front begun_with found c.self.inside.tables tables c.last_alone-earlier.ensures.last h.0 written
-      (ap (taken found) maps_are ∙ leads ∙ ap (λ (e : List Write). taken e b.maps) h.0) (c.self.invariant.spare h.1) places)
-    where
-      written : NoOtherReady (keys_written found) c.self.inside.tables tables
-      written = alone_since c.replace-tables.ensures.value begun_with c.of_tables-draft.ensures c.carry_each.ensures.keys (keys_written found) tables h.0 c.into_tables-tables.ensures.alone
+      subst (λ (l : List UndoStep). NoneIsSpare b.start tables l places) (sym undo_log_is)
+      (alone_spare b none found c.self.inside.tables tables (subst (λ (s : Stored). NoOtherReady (keys_written found) s tables) begun c.into_tables-tables.ensures.alone) leads_back (c.self.invariant.spare h) places)
 
   now_left : unclosed places ≡ unclosed (drop c.args.places.end b.places)
   now_left = left_behind places c.args.places.end c.in-Ok.ensures.closed ∙ ap unclosed c.in-Ok.ensures.beside.behind
@@ -249,8 +211,6 @@ invariant_of-self-2 g c =
     let room = c.self.invariant.room.undo_log in
     let all = c.self.invariant.room.all in
     let replies = c.self.invariant.room.replies in
-    let taken = c.last_alone-earlier.ensures.len in
-    let given = c.last_alone-earlier.ensures.capacity in
     let len = c.carry_each.ensures.len in
     let more = c.push_reserved.ensures.len in
     let space = c.push_reserved.ensures.capacity in
@@ -259,7 +219,7 @@ invariant_of-self-2 g c =
       kept = new_kept g c;
       room = record { undo_log = omega arith; all = omega arith; replies = omega arith; no_replies = c.self.invariant.room.no_replies };
       candidates = subst (λ (l : List BoardEntry). AreCandidates (map place_of l) c.release_all.new.self) c.deref.ensures.value c.release_all.ensures;
-      spare = λ e. new_spare g c (c.continues-self-inside.ensures.none e, c.continues-self-inside.ensures.before e);
+      spare = new_spare g c;
     }
 
 pub returns-clause-left : goal.returns-clause-left

@@ -3,7 +3,7 @@ use Rattle.gw_base.specs.declared.key.Key.TheVariants.{Ctx}
 use Rattle.gw_table.specs.declared.undo_log.Write.{Write}
 use Rattle.gw_table.specs.declared.undo_log.Write.TheVariants.{OfCtx}
 use Rattle.gw_table.specs.Maps.{ctx, put_ctx}
-use Rattle.gw_table.specs.UndoLog.{keys_written, before_all}
+use Rattle.gw_table.specs.UndoLog.{keys_written}
 use Rattle.gw_table.specs.Parts.{Parted}
 use Rattle.gw_table.specs.Stored.{Stored, placed, maps_of, put_ctx_place}
 use Rattle.gw_table.proofs.InPlace.{same_in_place, wrote_ctx, wrote_ctx_again, logged_before, stood_there}
@@ -15,10 +15,9 @@ use Rattle.gw_table.proofs.in_place.InPlace.set_ctx.Goals as goal
 pub invariant_of-self-in_default : goal.invariant_of-self-in_default
 invariant_of-self-in_default c =
     let old : Stored = c.self.inside.tables in
-    let start : Stored = before_all c.self.inside.earlier.value c.self.inside.before.value in
-    same_in_place start (put_ctx_place old c.args.number (placed c.args.entry)) c.write_ctx.new.self c.self.inside.writes.items c.make_room.new.writes.items
+    same_in_place c.self.inside.before.value (put_ctx_place old c.args.number (placed c.args.entry)) c.write_ctx.new.self c.self.inside.writes.items c.make_room.new.writes.items
     (c.in_ok-found.ensures.ok ∙ ap (λ p. put_ctx_place old c.args.number p) c.of.ensures) c.in_ok-make_room.ensures.same
-    (wrote_ctx_again start old c.self.inside.writes.items c.self.invariant c.args.number (placed c.args.entry) (placed_here c.args.entry)
+    (wrote_ctx_again c.self.inside.before.value old c.self.inside.writes.items c.self.invariant c.args.number (placed c.args.entry) (placed_here c.args.entry)
     (logged_before c.self.inside.writes.items c.deref.result.now (Ctx c.args.number) (ctx (maps_of old) c.args.number) c.in_ok-found.found (c.deref.ensures.value ∙ c.in_ok-make_room.ensures.same) c.in_default.is c.in_ok-found.ensures.found))
 
 pub returns-in_default-clause-maps : goal.returns-in_default-clause-maps
@@ -31,11 +30,10 @@ returns-in_default-clause-maps c =
 pub invariant_of-self-2 : goal.invariant_of-self-2
 invariant_of-self-2 c =
     let old : Stored = c.self.inside.tables in
-    let start : Stored = before_all c.self.inside.earlier.value c.self.inside.before.value in
-    same_in_place start (put_ctx_place old c.args.number (placed c.args.entry)) c.write_ctx.new.self (c.self.inside.writes.items ++ OfCtx c.args.number c.in-Unlogged.before ∷ []) c.push_reserved.new.self.items
+    same_in_place c.self.inside.before.value (put_ctx_place old c.args.number (placed c.args.entry)) c.write_ctx.new.self (c.self.inside.writes.items ++ OfCtx c.args.number c.in-Unlogged.before ∷ []) c.push_reserved.new.self.items
     (c.in_ok-found.ensures.ok ∙ ap (λ p. put_ctx_place old c.args.number p) c.of.ensures)
     (c.push_reserved.ensures.items ∙ ap (λ (l : List Write). l ++ OfCtx c.args.number c.in-Unlogged.before ∷ []) c.in_ok-make_room.ensures.same)
-    (wrote_ctx start old c.self.inside.writes.items c.self.invariant c.args.number (placed c.args.entry) c.in-Unlogged.before (placed_here c.args.entry)
+    (wrote_ctx c.self.inside.before.value old c.self.inside.writes.items c.self.invariant c.args.number (placed c.args.entry) c.in-Unlogged.before (placed_here c.args.entry)
     (stood_there (keys_written c.deref.result.now) (Ctx c.args.number) (ctx (maps_of old) c.args.number) c.in_ok-found.found c.in-Unlogged.before c.in-Unlogged.is c.in_ok-found.ensures.found))
 
 pub returns-clause-maps : goal.returns-clause-maps

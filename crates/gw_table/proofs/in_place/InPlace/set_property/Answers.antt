@@ -1,7 +1,6 @@
 use Rattle.std.proofs.Common.{Result, Ok, Err, ap, ◌∙◌}
 use Rattle.std.specs.Result.{OnOk}
 use Rattle.gw_table.specs.Maps.{ctx}
-use Rattle.gw_table.specs.UndoLog.{before_all}
 use Rattle.gw_table.specs.Parts.{Parted}
 use Rattle.gw_table.specs.Settings.{put_setting}
 use Rattle.gw_table.specs.Stored.{Stored, maps_of}
@@ -9,7 +8,7 @@ use Rattle.gw_table.proofs.Settings.{maps-set_place}
 use Rattle.gw_table.proofs.in_place.InPlace.set_property.Goals as goal
 
 pub invariant_of-self : goal.invariant_of-self
-invariant_of-self c = c.set_property.ensures.back (before_all c.self.inside.earlier.value c.self.inside.before.value) c.self.invariant
+invariant_of-self c = c.set_property.ensures.back c.self.inside.before.value c.self.invariant
 
 on_ok : {T E P Q : Type 0} (r : Result T E) → (P → Q) → OnOk r P → OnOk r Q
 on_ok (Ok x) f p = f p

@@ -3,7 +3,7 @@ use Rattle.gw_base.specs.declared.key.Key.TheVariants.{Term}
 use Rattle.gw_table.specs.declared.undo_log.Write.{Write}
 use Rattle.gw_table.specs.declared.undo_log.Write.TheVariants.{OfTerm}
 use Rattle.gw_table.specs.Maps.{term, put_term}
-use Rattle.gw_table.specs.UndoLog.{keys_written, before_all}
+use Rattle.gw_table.specs.UndoLog.{keys_written}
 use Rattle.gw_table.specs.Parts.{Parted}
 use Rattle.gw_table.specs.Stored.{Stored, placed, maps_of, put_term_place}
 use Rattle.gw_table.proofs.InPlace.{same_in_place, wrote_term, wrote_term_again, logged_before, stood_there}
@@ -15,10 +15,9 @@ use Rattle.gw_table.proofs.in_place.InPlace.set_term.Goals as goal
 pub invariant_of-self-in_default : goal.invariant_of-self-in_default
 invariant_of-self-in_default c =
     let old : Stored = c.self.inside.tables in
-    let start : Stored = before_all c.self.inside.earlier.value c.self.inside.before.value in
-    same_in_place start (put_term_place old c.args.name.now (placed c.args.entry)) c.write_term.new.self c.self.inside.writes.items c.make_room.new.writes.items
+    same_in_place c.self.inside.before.value (put_term_place old c.args.name.now (placed c.args.entry)) c.write_term.new.self c.self.inside.writes.items c.make_room.new.writes.items
     (c.in_ok-found.ensures.ok ∙ ap (λ p. put_term_place old c.args.name.now p) c.of.ensures) c.in_ok-make_room.ensures.same
-    (wrote_term_again start old c.self.inside.writes.items c.self.invariant c.args.name.now (placed c.args.entry) (placed_here c.args.entry)
+    (wrote_term_again c.self.inside.before.value old c.self.inside.writes.items c.self.invariant c.args.name.now (placed c.args.entry) (placed_here c.args.entry)
     (logged_before c.self.inside.writes.items c.deref.result.now (Term c.args.name.now) (term (maps_of old) c.args.name.now) c.in_ok-found.found (c.deref.ensures.value ∙ c.in_ok-make_room.ensures.same) c.in_default.is c.in_ok-found.ensures.found))
 
 pub returns-in_default-clause-maps : goal.returns-in_default-clause-maps
@@ -31,11 +30,10 @@ returns-in_default-clause-maps c =
 pub invariant_of-self-2 : goal.invariant_of-self-2
 invariant_of-self-2 c =
     let old : Stored = c.self.inside.tables in
-    let start : Stored = before_all c.self.inside.earlier.value c.self.inside.before.value in
-    same_in_place start (put_term_place old c.args.name.now (placed c.args.entry)) c.write_term.new.self (c.self.inside.writes.items ++ OfTerm c.args.name.now c.in-Unlogged.before ∷ []) c.push_reserved.new.self.items
+    same_in_place c.self.inside.before.value (put_term_place old c.args.name.now (placed c.args.entry)) c.write_term.new.self (c.self.inside.writes.items ++ OfTerm c.args.name.now c.in-Unlogged.before ∷ []) c.push_reserved.new.self.items
     (c.in_ok-found.ensures.ok ∙ ap (λ p. put_term_place old c.args.name.now p) c.of.ensures)
     (c.push_reserved.ensures.items ∙ ap (λ (l : List Write). l ++ OfTerm c.args.name.now c.in-Unlogged.before ∷ []) c.in_ok-make_room.ensures.same)
-    (wrote_term start old c.self.inside.writes.items c.self.invariant c.args.name.now (placed c.args.entry) c.in-Unlogged.before (placed_here c.args.entry)
+    (wrote_term c.self.inside.before.value old c.self.inside.writes.items c.self.invariant c.args.name.now (placed c.args.entry) c.in-Unlogged.before (placed_here c.args.entry)
     (stood_there (keys_written c.deref.result.now) (Term c.args.name.now) (term (maps_of old) c.args.name.now) c.in_ok-found.found c.in-Unlogged.before c.in-Unlogged.is c.in_ok-found.ensures.found))
 
 pub returns-clause-maps : goal.returns-clause-maps
