@@ -1,11 +1,13 @@
 -- While nothing is open, a wave begins with the first place that is not closed.
 use Rattle.std.proofs.Common.{nat_eq, ◌≡◌, ℕ, zero, suc, ◌+◌, ◌-◌, ◌<◌, ◌≤◌, Bool, true, false, cond, ◌&&◌, not, List, [], ◌∷◌, ◌++◌, map, filter, length, take, Option, None, Some, sym, ap, refl, ◌∙◌, arith, eqb-true}
-use Rattle.std.specs.Prelude.{◌||◌, slice_get}
+use Rattle.std.specs.Prelude.{◌||◌, slice_get, IsSomeAnd}
 use Rattle.std.specs.List.{list_any, range_with_len}
 use Rattle.gw_base.specs.declared.key.Key.{Key}
+use Rattle.gw_base.specs.declared.key.Key.TheVariants.{Whole}
+use Rattle.gw_base.specs.Keys.{has}
 use Rattle.gw_base.proofs.Booleans.{neither}
 use Rattle.gw_table.specs.Maps.{Maps}
-use Rattle.gw_board.specs.Alone.{is_unclosed_at, IsFirstUnclosed}
+use Rattle.gw_board.specs.Alone.{is_unclosed_at, IsFirstUnclosed, IsWholeTable}
 use Rattle.gw_board.specs.Boards.{Seen, Handed, core_of, is_closed, is_pending_at, AllClosed}
 use Rattle.gw_board.specs.Carried.{keys_of}
 use Rattle.gw_board.specs.Core.{Core, Standing, Pending, Opened, Closed, Place}
@@ -14,7 +16,7 @@ use Rattle.gw_board.specs.Planned.{IsPlan}
 use Rattle.gw_board.specs.Results.{NothingIsOpen}
 use Rattle.gw_board.specs.Waves.{is_pending, meets_pending, is_free, wave}
 use Rattle.gw_board.specs.declared.planned.Planned.{Planned}
-use Rattle.gw_board.proofs.Behind.{filter_end}
+use Rattle.gw_board.proofs.Behind.{behind, filter_end}
 use Rattle.gw_board.proofs.CarriedAlone.{unclosed_pends}
 use Rattle.gw_board.proofs.LeftOut.{other, none_pending}
 use Rattle.gw_board.proofs.Planning.{free_at, wave_more}
@@ -103,6 +105,19 @@ wave_alone b first none is rest =
     ∙ filter_end (free_at (core_of b)) (first + 1) (length b.places - (first + 1)) (λ i l m. rest i l (omega (arith, m, all)))
     ∙ wave_more (core_of b) first
     ∙ (λ j. none_so_far (core_of b) first is.before j ++ cond (free j) (first ∷ []) [])
+
+-- so too where its request is whole-table, which any other meets
+pub wave_for_all : (b : Seen) (first : ℕ) → NothingIsOpen (core_of b) → IsFirstUnclosed b.places first → IsSomeAnd (slice_get b.places first) IsWholeTable → wave (core_of b) ≡ first ∷ []
+wave_for_all b first none is whole =
+    wave_alone b first none is (λ i low l. rest i low (slice_get b.places first) refl (unclosed_pends b.places first none is.here) whole (slice_get b.places i) refl)
+  where
+    rest : (i : ℕ) → first + 1 ≤ i → (o : Option Place) → slice_get b.places first ≡ o → is_pending_at o ≡ true → IsSomeAnd o IsWholeTable
+        → (other : Option Place) → slice_get b.places i ≡ other → IsNoneOfWave b.maps b.places i
+    rest i low None e pends all other f = absurd cc
+    rest i low (Some q) e pends all None f = ap (is_free b.maps (take i b.places)) f
+    rest i low (Some q) e pends all (Some p) f =
+        behind b.maps b.places i first p q f e (omega (arith, low))
+        (λ j. pends j && (all b.maps j || has (keys_of p.requested b.maps) Whole || list_any (has (keys_of q.requested b.maps)) (keys_of p.requested b.maps)))
 
 pub plan_begins : (b : Seen) (first : ℕ) (planned : List Planned) → NothingIsOpen (core_of b) → IsFirstUnclosed b.places first → IsPlan b planned → slice_get (map (λ (p : Planned). p.place) planned) 0 ≡ Some first
 plan_begins b first planned none is plan = ap (λ (l : List ℕ). slice_get l 0) plan.places ∙ wave_begins b first none is

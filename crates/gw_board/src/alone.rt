@@ -1,10 +1,9 @@
 //! Executing places one after another, on the tables where they lie.
 
-ghost use Rattle.std.specs.Prelude.{◌≡◌, ◌+◌, ◌<◌, ◌≤◌, true, false, not, map, take, drop, vec_len, Decides, IfSome, IsSomeAnd, IsTrue, OnErr, OnOk, slice_get};
-ghost use Rattle.std.specs.List.{list_any};
+ghost use Rattle.std.specs.Prelude.{◌≡◌, ◌+◌, ◌<◌, ◌≤◌, true, map, take, drop, vec_len, IfSome, OnErr, OnOk, slice_get};
 ghost use Rattle.gw_table.specs.Parts.{Over, start_of};
 ghost use Rattle.gw_table.specs.Stored.{Stored};
-ghost use Rattle.gw_board.specs.Alone.{AreSameBeside, FindsFirst, IsWholeTable};
+ghost use Rattle.gw_board.specs.Alone.{AreSameBeside, FindsFirst};
 ghost use Rattle.gw_board.specs.GoingOn.{MayGoOn};
 ghost use Rattle.gw_board.specs.Boards.{requested_in, begun_board, core_of, is_closed, is_pending_at, AllClosed, GivesTheFold, unclosed};
 ghost use Rattle.gw_board.specs.OpenJobs.{IsSameBurst};
@@ -17,7 +16,7 @@ use crate::board_entry::{BoardEntry, Stage, all_pending, set_stage};
 use crate::job::carry_on;
 use crate::journal::put_all_back;
 use crate::profile::Profile;
-use crate::requested::{Task, is_seen_for_all};
+use crate::requested::Task;
 use crate::undo_step::UndoStep;
 use gw_base::{Items, NoMemory};
 use gw_draw::{Gate, OpenGate};
@@ -30,15 +29,6 @@ fn is_closed(board_entry: &BoardEntry<'_, '_, '_>) -> bool
     ensures { result ≡ is_closed (standing_of board_entry.now.stage) }
 {
     matches!(board_entry.stage, Stage::Closed(_))
-}
-
-/// Whether one of these places is not closed.
-fn any_unclosed(board_entries: &[BoardEntry<'_, '_, '_>]) -> bool
-    ensures { result ≡ list_any (λ s. not (is_closed (standing_of s.stage))) board_entries.now }
-{
-    board_entries
-        .iter()
-        .any(|board_entry| !is_closed(board_entry))
 }
 
 /// What a place requests, if it is pending.
@@ -107,29 +97,6 @@ impl Board<'_, '_, '_> {
             }
         }
         None
-    }
-
-    /// Whether the request of a place is whole-table: it has an action for each context, or a command that stands for
-    /// all. Its keys are then all that there are, so that it is in a wave only as the first place that is pending,
-    /// and alone. Of one whose tree is not kept it is not looked for.
-    pub fn is_for_all(&self, place: usize) -> bool
-        ensures { IsTrue result → IsSomeAnd (slice_get self.now.places place) IsWholeTable }
-    {
-        match self.board_entries.get(place) {
-            Some(board_entry) => is_seen_for_all(board_entry.task.get()),
-            None => false,
-        }
-    }
-
-    /// Whether all places behind this one are closed: there is nothing that it could be executed beside.
-    pub fn is_last(&self, place: usize) -> bool
-        ensures { Decides result (AllClosed (drop (place + 1) self.now.places)) }
-    {
-        if place < self.board_entries.len() {
-            !any_unclosed(&self.board_entries[place + 1..])
-        } else {
-            true
-        }
     }
 
     /// Executes what is pending of a range of places, one after another, on one draft of the tables where they lie, whose

@@ -198,13 +198,13 @@ impl<'b, 'h, 'a> Board<'b, 'h, 'a> {
     }
 
     /// Opens a place as it was planned. The caller knows that it may be opened with the keys that it has there, as
-    /// those of `plan_wave` may while nothing else is open, one after another. No other place is looked at, and the
+    /// those of `plan_next` may while nothing else is open, one after another. No other place is looked at, and the
     /// tables only at these keys. Room is made as by `open`.
     ///
     /// # Errors
     ///
     /// Out of memory. The board is as it was.
-    pub fn open_planned(
+    pub(crate) fn open_planned(
         &mut self,
         alloc: Global,
         planned: Planned,

@@ -71,7 +71,8 @@ fn places_of(alloc: Global, planned: &[Planned]) -> Result<Vec<usize>, NoMemory>
 impl Board<'_, '_, '_> {
     /// The next wave: in rising order, all pending places whose keys, in the tables as they are, meet those of no
     /// earlier pending place. While nothing is open, the places of the wave may be opened in this order, one after
-    /// another. The work is that of `plan_wave`.
+    /// another. Nothing behind a whole-table place is looked at, nor are the keys of such a place gathered, where one
+    /// before it is pending. With n keys of the places that are looked at the work is n log n.
     ///
     /// # Errors
     ///
@@ -79,29 +80,18 @@ impl Board<'_, '_, '_> {
     pub fn plan(&self, alloc: Global) -> Result<Vec<usize>, NoMemory>
         ensures { IfOk result (λ places. places.items ≡ wave (core_of self.now)) }
     {
-        let planned = self.plan_wave(alloc)?;
+        let planned = self.plan_from(alloc, 0)?;
         places_of(alloc, &planned)
     }
 
-    /// The next wave, as of `plan`, each place with its keys. While nothing is open, `open_planned` opens them in
-    /// this order, one after another. Nothing behind a whole-table place is looked at, nor are the keys of such a
-    /// place gathered, where one before it is pending. Once `plan_next` has gathered the names of requests, a place
-    /// that waits for an earlier one which names a context or a termination that it names is not looked at either, but
-    /// where a later one may be in the wave. With n keys of the places that are looked at the work
-    /// is n log n.
+    /// The next wave, as of `plan`, each place with its keys. While nothing is open, `open_planned` opens them in this
+    /// order, one after another. Once the names of requests are gathered, a place that waits for an earlier one which
+    /// names a context or a termination that it names is not looked at either, but where a later one may be in the wave.
+    /// The caller knows that the places before `from` are closed, which are not looked at.
     ///
     /// # Errors
     ///
     /// Out of memory.
-    pub fn plan_wave(&self, alloc: Global) -> Result<Vec<Planned>, NoMemory>
-        ensures plan { IfOk result (λ planned. IsPlan self.now planned.items) }
-        ensures in_turn { IfOk result (λ planned. NothingIsOpen (core_of self.now) → MayOpenInTurn self.now planned.items) }
-    {
-        self.plan_from(alloc, 0)
-    }
-
-    /// The next wave, as of `plan_wave`. The caller knows that the places before `from` are closed, which are not
-    /// looked at.
     pub(crate) fn plan_from(&self, alloc: Global, from: usize) -> Result<Vec<Planned>, NoMemory>
         requires inside { from ≤ length self.now.places }
         requires closed { AllClosed (take from self.now.places) }

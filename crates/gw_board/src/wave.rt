@@ -2,7 +2,7 @@
 
 ghost use Rattle.std.specs.Prelude.{◌≡◌, ◌+◌, [], ◌∷◌, false, IsTrue, length, map, is_ok, IfOk, IsOk, IsSomeAnd, Some, Ok, OnErr, OnOk, slice_get};
 ghost use Rattle.std.specs.List.{list_all};
-ghost use Rattle.gw_board.specs.Alone.{IsFirstUnclosed};
+ghost use Rattle.gw_board.specs.Alone.{IsFirstUnclosed, IsWholeTable};
 ghost use Rattle.gw_board.specs.Boards.{core_of, unchanged, unclosed, with_result};
 ghost use Rattle.gw_board.specs.OpenJobs.{after_each, AreOpen, AreAnswers, IsSameBurst};
 ghost use Rattle.gw_board.specs.Planned.{IsPlan, MayOpenInTurn};
@@ -12,6 +12,7 @@ ghost use Rattle.gw_board.specs.Waves.{wave};
 use crate::board::Board;
 use crate::job::{Done, Job};
 use crate::planned::Planned;
+use crate::requested::is_seen_for_all;
 use gw_base::{Items, NoMemory};
 use gw_table::Part;
 use std::alloc::Global;
@@ -37,18 +38,43 @@ fn result_in(answer: Option<Answer>) -> (Part, Items<u8>)
 }
 
 impl<'b, 'h, 'a> Board<'b, 'h, 'a> {
-    /// Gathers the links of all places, if that was not done yet, and drops what is no candidate any more.
-    fn link(&mut self, alloc: Global) -> Result<(), NoMemory>
+    /// Gathers the links of all places, if that was not done yet, and drops what is no candidate any more. Where only the
+    /// last place is left, it does nothing.
+    fn link(&mut self, alloc: Global, first: usize) -> Result<(), NoMemory>
         ensures { self.new ≡ self.old }
     {
+        if self.board_entries.len().saturating_sub(first) < 2 {
+            return Ok(());
+        }
         self.candidates.link(alloc, &self.board_entries)?;
         self.candidates.trim(&self.board_entries);
         Ok(())
     }
 
-    /// Whether the next wave is its first place alone, as far as the names in the requests show: no other place is
-    /// without a link to a pending one. The tables are not looked at. The caller knows that nothing is open, and which
-    /// place is the first that is not closed. What the requests name by themselves is gathered before the first wave.
+    /// Whether the request of a place is seen to be whole-table. Its keys are then all that there are.
+    fn is_for_all(&self, place: usize) -> bool
+        ensures { IsTrue result → IsSomeAnd (slice_get self.now.places place) IsWholeTable }
+    {
+        match self.board_entries.get(place) {
+            Some(board_entry) => is_seen_for_all(board_entry.task.get()),
+            None => false,
+        }
+    }
+
+    /// Whether each place behind the first has a link to a pending one.
+    fn do_others_wait(&mut self, alloc: Global, first: usize) -> Result<bool, NoMemory>
+        requires none { NothingIsOpen (core_of self.old) }
+        requires first { IsFirstUnclosed self.old.places first }
+        ensures alone { IfOk result (λ wait. IsTrue wait → wave (core_of self.old) ≡ first ∷ []) }
+        ensures stays { self.new ≡ self.old }
+    {
+        self.link(alloc, first)?;
+        Ok(self.candidates.end(&self.board_entries) <= first + 1)
+    }
+
+    /// Whether the next wave is its first place alone, as far as the requests show: it is whole-table or the last place,
+    /// or each other one has a link to a pending one. The tables are not looked at. The caller knows that nothing is
+    /// open, and which place is the first that is not closed. What the requests name by themselves is gathered before.
     ///
     /// # Errors
     ///
@@ -59,13 +85,15 @@ impl<'b, 'h, 'a> Board<'b, 'h, 'a> {
         ensures alone { IfOk result (λ alone. IsTrue alone → wave (core_of self.old) ≡ first ∷ []) }
         ensures stays { self.new ≡ self.old }
     {
-        self.link(alloc)?;
-        Ok(self.candidates.end(&self.board_entries) <= first + 1)
+        if self.is_for_all(first) {
+            return Ok(true);
+        }
+        self.do_others_wait(alloc, first)
     }
 
-    /// The next wave, as of `plan_wave`, where places that wait for earlier ones by name are not looked at in the
-    /// tables. The caller knows that nothing is open, and which place is the first that is not closed: the wave begins
-    /// with it, so that one by itself may be executed by `carry_alone`. What the requests name by themselves is
+    /// The next wave, as of `plan`, each place with its keys; places that wait for earlier ones by name are not looked
+    /// at in the tables. The caller knows that nothing is open, and which place is the first that is not closed: the wave
+    /// begins with it, so that one by itself may be executed by `carry_alone`. What the requests name by themselves is
     /// gathered before the first wave. A place that waits so takes a step or two, and a closed one before the first
     /// takes none.
     ///
@@ -80,7 +108,7 @@ impl<'b, 'h, 'a> Board<'b, 'h, 'a> {
         ensures begins { IfOk result (λ planned. slice_get (map (λ p. p.place) planned.items) 0 ≡ Some first) }
         ensures stays { self.new ≡ self.old }
     {
-        self.link(alloc)?;
+        self.link(alloc, first)?;
         self.plan_from(alloc, first)
     }
 

@@ -68,22 +68,6 @@ fn carry_wave<R: Threads + Sync, G: Gate>(
     Ok(0)
 }
 
-/// Whether the first place that is not closed is a wave by itself, as far as is seen without the tables.
-///
-/// # Errors
-///
-/// Out of memory.
-fn goes_alone(alloc: Global, board: &mut Board<'_, '_, '_>, first: usize) -> Result<bool, NoMemory>
-    requires none { NothingIsOpen (core_of board.old) }
-    requires first { IsFirstUnclosed board.old.places first }
-    ensures { board.new ≡ board.old }
-{
-    if board.is_for_all(first) || board.is_last(first) {
-        return Ok(true);
-    }
-    board.is_wave_alone(alloc, first)
-}
-
 /// Executes what is pending on the board. One worker executes each request by itself, in order of arrival, and passes
 /// the gate with the number 0. Several go wave after wave, but a request that is a wave by itself, as one that is
 /// whole-table or the last that is pending, is executed in that way, too. The caller knows that nothing is open. There
@@ -107,7 +91,7 @@ fn carry_all<R: Threads + Sync, G: Gate>(
     }
     let mut closed = 0;
     while let Some(place) = board.first_unclosed(closed) {
-        if goes_alone(alloc, board, place)? {
+        if board.is_wave_alone(alloc, place)? {
             workers.gate.pass(0);
             board.carry_alone(alloc, place)?;
             closed = place;
