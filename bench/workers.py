@@ -11,7 +11,7 @@ whole processes, less that of what is made before; the best of five turns, each 
 
 It fails where answers are not those of one worker, and with 4 idle cores where a ratio is too low: in bursts of 1,024
 typical calls below 1.2 with 2 workers and 1.5 with 4, audits below 2.2 with 4, a chain below 0.8; in bursts of 256
-Locals below 1.5 with 4 (larger ones have more than 1,048,576 bytes, so one worker). --quick: these sizes alone.
+Locals below 1.5 with 4. --quick: these sizes alone.
 """
 import itertools
 import pathlib

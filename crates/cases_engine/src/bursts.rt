@@ -69,3 +69,20 @@ pub fn add_many(alloc: Global, burst: &mut Items<Datagram>, words: &[u8]) -> Res
     let many = Many::read(words).ok_or(CaseFault::Form)?;
     many.add(burst, &mut Page::new(alloc))
 }
+
+/// Adds the controller's datagram of a text with so many blanks behind it: how many, and the text.
+pub fn add_padded(
+    alloc: Global,
+    burst: &mut Items<Datagram>,
+    words: &[u8],
+) -> Result<(), CaseFault> {
+    let (count, text) = split_word(words);
+    let count = number_of(count).ok_or(CaseFault::Form)?;
+    let mut page = Page::new(alloc);
+    page.put(CONTROLLER);
+    page.put(text);
+    for _blank in 0..count {
+        page.put(b" ");
+    }
+    add(alloc, burst, page.whole()?)
+}

@@ -1,7 +1,7 @@
 //! Gateways: datagrams, what each is answered, and the tables after them.
 
 use crate::answers::PEER;
-use crate::bursts::{CONTROLLER, add, add_many, datagram_of};
+use crate::bursts::{CONTROLLER, add, add_many, add_padded, datagram_of};
 use crate::variants::{Audit, BurstReport, Variants, run, write_audit};
 use cases_text::{CaseFault, Page, decoded, number_of, split_word};
 use gw_base::Items;
@@ -194,6 +194,7 @@ pub fn answer<R: Threads + Clock + Sync>(
         "+Q" => gateways.add_headed(out.alloc(), text),
         "+datagram" => add(out.alloc(), &mut gateways.burst, text),
         "+many" => add_many(out.alloc(), &mut gateways.burst, text),
+        "+padded" => add_padded(out.alloc(), &mut gateways.burst, text),
         _ => answer_there(rt, gateways, call, text, out),
     }
 }

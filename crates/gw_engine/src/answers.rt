@@ -19,8 +19,8 @@ use gw_reply::{TxReply, write_fault, write_reply};
 use std::alloc::Global;
 use std::thread::Threads;
 
-/// So many items are worth one more worker.
-const ITEMS_FOR_ONE: usize = 128;
+/// So many bytes of replies are worth one more worker.
+const BYTES_FOR_ONE: usize = 1_048_576;
 
 /// The replies to the new requests of a burst, in order. The caller knows that all of them are executed.
 fn replies_of<'k>(alloc: Global, board: &'k Board<'_, '_, '_>) -> Result<Vec<&'k [u8]>, NoMemory>
@@ -32,6 +32,13 @@ fn replies_of<'k>(alloc: Global, board: &'k Board<'_, '_, '_>) -> Result<Vec<&'k
         replies.push(reply)?;
     }
     Ok(replies)
+}
+
+/// How long the replies are, together.
+fn bytes_in(replies: &[&[u8]]) -> usize {
+    replies
+        .iter()
+        .fold(0usize, |sum, reply| sum.saturating_add(reply.len()))
 }
 
 /// A copy of a reply: one that was kept before the burst, or that of one of its new requests.
@@ -175,7 +182,7 @@ pub(crate) fn answers<R: Threads + Sync, G: Gate>(
 {
     let replies = replies_of(alloc, board)?;
     let replies = replies.as_slice();
-    let workers = workers.for_work(items.len(), ITEMS_FOR_ONE);
+    let workers = workers.for_work(bytes_in(replies), BYTES_FOR_ONE);
     if workers.count == 1 || items.len() > MOST_DRAWN {
         return in_turn(alloc, mid, kept, replies, items);
     }

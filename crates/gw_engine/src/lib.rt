@@ -30,3 +30,4 @@ pub use laws::{answers_are_read_as_messages, bursts_go_in_phases};
 pub use octets::Octets;
 pub use run::BurstAnswers;
 pub use usage::Usage;
+pub use workers::Workers;

@@ -18,11 +18,15 @@ pub(crate) struct ReadDatagram<'a> {
     pub(crate) message: Result<Message<'a>, Code>,
 }
 
-/// Of a burst of more bytes no trees are kept: those of commands may take some 16 times the bytes of their texts.
-const MOST_WITH_TREES: usize = 1_048_576;
+/// Once the trees of a burst take more bytes, those of later datagrams are not kept. The trees of commands may take
+/// some 60 times the bytes of their texts.
+const MOST_IN_TREES: usize = 16_777_216;
 
 /// The lists of a typical transaction take up to so many bytes for each byte of its text.
 const ROOM_FOR_ONE: usize = 8;
+
+/// An arena begins with no more bytes.
+const MOST_ROOM: usize = 8_388_608;
 
 /// The error that a text without a message is answered with.
 fn code_of(fault: ReadFault) -> Result<Code, NoMemory>
@@ -36,15 +40,10 @@ fn code_of(fault: ReadFault) -> Result<Code, NoMemory>
 }
 
 /// Reads a text, and keeps the trees of its requests, or not.
-fn read<'a>(
-    alloc: Global,
-    bump: &'a Bump,
-    text: &'a [u8],
-    keeps_trees: bool,
-) -> Result<Message<'a>, ReadFault>
+fn read<'a>(alloc: Global, bump: &'a Bump, text: &'a [u8]) -> Result<Message<'a>, ReadFault>
     ensures { IsReadingOf text.now result }
 {
-    if keeps_trees {
+    if keeps_trees(bump) {
         read_message(bump, text)
     } else {
         skim_message(alloc, bump, text)
@@ -56,12 +55,11 @@ fn read_datagram<'a>(
     alloc: Global,
     bump: &'a Bump,
     datagram: &'a Datagram,
-    keeps_trees: bool,
 ) -> Result<ReadDatagram<'a>, NoMemory>
     ensures { IfOk result (IsReadAs datagram.now) }
 {
     let peer = datagram.peer;
-    match read(alloc, bump, datagram.bytes.as_slice(), keeps_trees) {
+    match read(alloc, bump, datagram.bytes.as_slice()) {
         Ok(message) => Ok(ReadDatagram {
             peer,
             message: Ok(message),
@@ -80,33 +78,24 @@ fn bytes_in(burst: &[Datagram]) -> usize {
     })
 }
 
-/// Whether the trees of a burst's requests are kept while it is executed. Where they are not, each is read again when
-/// it is needed, so that the memory for what is read goes by the number of requests and not by their trees.
-pub(crate) fn keeps_trees(burst: &[Datagram]) -> bool {
-    bytes_in(burst) <= MOST_WITH_TREES
-}
-
-/// An arena for what is read of a burst whose trees are kept, or not. Where they are, it begins with room for those of
-/// typical transactions.
+/// An arena for what is read of a burst. It begins with room for the trees of typical transactions.
 ///
 /// # Errors
 ///
 /// Out of memory.
-pub(crate) fn arena_for(
-    alloc: Global,
-    burst: &[Datagram],
-    keeps_trees: bool,
-) -> Result<Bump, NoMemory> {
-    let room = if keeps_trees {
-        bytes_in(burst).saturating_mul(ROOM_FOR_ONE)
-    } else {
-        0
-    };
+pub(crate) fn arena_for(alloc: Global, burst: &[Datagram]) -> Result<Bump, NoMemory> {
+    let room = bytes_in(burst).saturating_mul(ROOM_FOR_ONE).min(MOST_ROOM);
     Ok(Bump::try_with_capacity(alloc, room)?)
 }
 
-/// Reads the datagrams of a burst, one after another, and keeps the trees of their requests, or not. The lists of what
-/// is read lie in the arena.
+/// Whether the trees of a burst's requests are kept in its arena while it is executed, as far as it was read. One that
+/// is not kept is read again when it is needed, so that the memory for what is read is bounded.
+pub(crate) fn keeps_trees(bump: &Bump) -> bool {
+    bump.allocated_bytes() <= MOST_IN_TREES
+}
+
+/// Reads the datagrams of a burst, one after another. The lists of what is read lie in the arena, and the trees of
+/// requests as long as they are kept.
 ///
 /// # Errors
 ///
@@ -115,13 +104,12 @@ pub(crate) fn read_burst<'a>(
     alloc: Global,
     bump: &'a Bump,
     burst: &'a [Datagram],
-    keeps_trees: bool,
 ) -> Result<Items<ReadDatagram<'a>>, NoMemory>
     ensures { IfOk result (AllZip IsReadAs burst.now) }
 {
     let mut messages = Items::from(Vec::with_capacity(alloc, burst.len())?);
     for datagram in burst {
-        messages.push(read_datagram(alloc, bump, datagram, keeps_trees)?)?;
+        messages.push(read_datagram(alloc, bump, datagram)?)?;
     }
     Ok(messages)
 }

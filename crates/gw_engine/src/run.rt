@@ -152,14 +152,14 @@ impl Gateway {
     /// waits for the others. Each draws the next request until none is left, and passes the gate just before it, with
     /// the request's number within its wave, from 0. A wave has as many workers as requests at most, and with one no
     /// thread is started. Answers and state are the same for every number of workers, however they are scheduled. A
-    /// worker that cannot be started is no fault. A `pass` that never returns holds up the call. The answers of 128
-    /// items or more are written by workers too; there they pass no gate. The lists of what is read lie in an arena,
-    /// which is freed when the burst is over, so a burst is read by the caller alone.
+    /// worker that cannot be started is no fault. A `pass` that never returns holds up the call. Answers are written by
+    /// workers too where replies have more than 1,048,576 bytes; there they pass no gate. The lists of what is read lie
+    /// in an arena, which is freed when the burst is over, so a burst is read by the caller alone.
     ///
-    /// Of a burst of more than 1,048,576 bytes the trees of requests are not kept: each request is read when the burst
-    /// comes in, once more for what it owns and once more to be executed, and one worker executes all of them, one
-    /// after another. So a burst takes memory for its tree of one transaction at a time, and beside that by the number
-    /// of its transactions.
+    /// Once the trees of what is read take more than 16,777,216 bytes, those of later datagrams are not kept: each of
+    /// their requests is read when the burst comes in, once more for what it owns and once more to be executed, and one
+    /// worker executes the burst, one request after another. So a burst takes some 40 MB for its trees at most, and
+    /// beside that by the number of its transactions.
     ///
     /// # Errors
     ///
@@ -179,7 +179,8 @@ impl Gateway {
         ensures err { OnErr result (self.new ≡ self.old) }
         ensures fits { IsWellFormed self.new.settings self.new.state }
     {
-        Ok(self.run_counted(rt, alloc, workers, burst, gate)?.answers)
+        let workers = Workers::new(rt, workers, gate);
+        Ok(self.run_counted(alloc, &workers, burst)?.answers)
     }
 
     /// Answers a burst as `run` does, and counts its requests by their classes.
@@ -189,14 +190,10 @@ impl Gateway {
     /// Those of `run`.
     pub fn run_counted<R: Threads + Sync, G: Gate>(
         &mut self,
-        rt: &R,
         alloc: Global,
-        workers: u32,
+        workers: &Workers<'_, R, G>,
         burst: &[Datagram],
-        gate: &G,
     ) -> Result<BurstAnswers, NoMemory>
-        requires some { 1 ≤ workers }
-        requires limit { workers ≤ 64 }
         ensures ok { IfOk result (λ done. AnswersBurst self.old burst.now done.answers self.new) }
         ensures counts { IfOk result (λ done. CountsBurst self.old burst.now done.counts) }
         ensures readable { IfOk result (λ done. CanBeRead self.old.settings.mid burst.now done.answers) }
@@ -205,13 +202,11 @@ impl Gateway {
     {
         // No effect at run time. The proof reads here that the state is well-formed.
         let _ = &self.tables;
-        let workers = Workers::new(rt, workers, gate);
-        let keeps_trees = keeps_trees(burst);
-        let bump = arena_for(alloc, burst, keeps_trees)?;
-        let messages = read_burst(alloc, &bump, burst, keeps_trees)?;
+        let bump = arena_for(alloc, burst)?;
+        let messages = read_burst(alloc, &bump, burst)?;
         let plan = self.plan(alloc, messages.as_slice())?;
         let counts = plan.counts;
-        let answers = self.perform(&workers.alone_unless(keeps_trees), alloc, plan)?;
+        let answers = self.perform(&workers.alone_unless(keeps_trees(&bump)), alloc, plan)?;
         Ok(BurstAnswers { answers, counts })
     }
 }

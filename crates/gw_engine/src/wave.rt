@@ -22,28 +22,13 @@ fn answer_to(alloc: Global, job: &Job<'_, '_, '_>) -> Answer
     carry(alloc, job)
 }
 
-/// An answer for each job, one after another.
-fn in_turn<G: Gate>(
-    alloc: Global,
-    jobs: &[Job<'_, '_, '_>],
-    gate: &G,
-) -> Result<Vec<Answer>, NoMemory>
-    ensures { IfOk result (λ answers. AreAnswers jobs.now answers.items) }
-{
-    let mut answers = Vec::with_capacity(alloc, jobs.len())?;
-    for job in jobs {
-        gate.pass(answers.len());
-        answers.push(answer_to(alloc, job))?;
-    }
-    Ok(answers)
-}
-
 /// An answer for each job, in the job's place, by as many workers as there are and as the jobs allow. Each passes the
-/// gate with the job's number just before the job. One job needs no thread.
+/// gate with the job's number just before the job.
 ///
 /// # Errors
 ///
-/// Out of memory for the answers. An answer may be that, too.
+/// Out of memory for the answers, or more jobs than can be drawn, of which a burst has 1,024 at most. An answer may be
+/// that, too.
 pub(crate) fn answers_to<R: Threads + Sync, G: Gate>(
     workers: &Workers<'_, R, G>,
     alloc: Global,
@@ -51,8 +36,8 @@ pub(crate) fn answers_to<R: Threads + Sync, G: Gate>(
 ) -> Result<Vec<Answer>, NoMemory>
     ensures { IfOk result (λ answers. AreAnswers jobs.now answers.items) }
 {
-    if jobs.len() < 2 || jobs.len() > MOST_DRAWN {
-        return in_turn(alloc, jobs, workers.gate);
+    if jobs.len() > MOST_DRAWN {
+        return Err(NoMemory);
     }
     let drawn = draw_map(
         workers.rt,

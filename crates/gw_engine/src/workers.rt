@@ -5,9 +5,9 @@ ghost use Rattle.std.specs.Prelude.{◌≡◌, ◌≤◌};
 use gw_draw::Gate;
 use std::thread::Threads;
 
-/// So many workers in threads, 1 to 64. They pass the gate before each transaction.
+/// So many workers in threads of that runtime, 1 to 64. They pass the gate before each transaction.
 #[derive(Drop)]
-pub(crate) struct Workers<'r, R, G> {
+pub struct Workers<'r, R, G> {
     pub(crate) rt: &'r R,
     pub(crate) gate: &'r G,
     pub(crate) count: u32,
@@ -16,7 +16,8 @@ pub(crate) struct Workers<'r, R, G> {
 }
 
 impl<'r, R: Threads + Sync, G: Gate> Workers<'r, R, G> {
-    pub(crate) fn new(rt: &'r R, count: u32, gate: &'r G) -> Self
+    /// So many workers, 1 to 64: the caller, and the others in threads of that runtime.
+    pub fn new(rt: &'r R, count: u32, gate: &'r G) -> Self
         requires some { 1 ≤ count }
         requires limit { count ≤ 64 }
         ensures { result.count ≡ count }

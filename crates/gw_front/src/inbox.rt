@@ -8,9 +8,8 @@ ghost use Rattle.gw_front.specs.Serving.{IsWithinLimits, burst_of};
 
 use crate::controllers::{Controller, is_admitted};
 use crate::exchange::Exchange;
-use crate::workers::Workers;
 use gw_base::{Items, NoMemory};
-use gw_engine::{BurstAnswers, Datagram, Gate, Gateway, Octets};
+use gw_engine::{BurstAnswers, Datagram, Gate, Gateway, Octets, Workers};
 use std::alloc::{AllocError, Global};
 use std::io;
 use std::net::SocketAddr;
@@ -175,6 +174,6 @@ impl Inbox {
         if self.is_refused {
             return Err(NoMemory);
         }
-        workers.run(alloc, gateway, self.datagrams.as_slice())
+        gateway.run_counted(alloc, workers, self.datagrams.as_slice())
     }
 }

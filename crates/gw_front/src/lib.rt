@@ -22,7 +22,6 @@ mod serve_options;
 mod server;
 mod serving;
 mod totals;
-mod workers;
 mod writing;
 
 pub use answering::answer;

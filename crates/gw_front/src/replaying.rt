@@ -10,8 +10,7 @@ use crate::burst_reading::{Next, next_burst};
 use crate::counted::Counted;
 use crate::counts::Counts;
 use crate::replay_fault::ReplayFault;
-use crate::workers::Workers;
-use gw_engine::{Datagram, Gate, Gateway};
+use gw_engine::{Datagram, Gate, Gateway, Workers};
 use std::alloc::Global;
 use std::io::{BufReader, Read, Write};
 use std::thread::Threads;
@@ -37,7 +36,7 @@ fn execute<T: Threads + Sync, G: Gate, W: Write>(
         gateway.new result }
     ensures empty { OnOk result (held.new.items ≡ []) }
 {
-    let answers = workers.run(alloc, gateway, burst)?.answers;
+    let answers = gateway.run_counted(alloc, workers, burst)?.answers;
     // No replay lives to see so many answers. They could not be counted, so this burst's are not written.
     let Some(counts) = counts.with_burst(burst.len(), answers.len()) else {
         return Err(ReplayFault::Write);
