@@ -19,7 +19,7 @@ pub(crate) struct ReadDatagram<'a> {
 }
 
 /// Once the trees of a burst take more bytes, those of later datagrams are not kept. The trees of commands may take
-/// some 60 times the bytes of their texts.
+/// some 50 times the bytes of their texts.
 const MOST_IN_TREES: usize = 16_777_216;
 
 /// The lists of a typical transaction take up to so many bytes for each byte of its text.
