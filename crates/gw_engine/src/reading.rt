@@ -22,6 +22,9 @@ pub(crate) struct ReadDatagram<'a> {
 /// some 50 times the bytes of their texts.
 const MOST_IN_TREES: usize = 16_777_216;
 
+/// Of a longer datagram no trees are kept.
+const MOST_WITH_TREES: usize = 1_048_576;
+
 /// The lists of a typical transaction take up to so many bytes for each byte of its text.
 const ROOM_FOR_ONE: usize = 8;
 
@@ -43,7 +46,7 @@ fn code_of(fault: ReadFault) -> Result<Code, NoMemory>
 fn read<'a>(alloc: Global, bump: &'a Bump, text: &'a [u8]) -> Result<Message<'a>, ReadFault>
     ensures { IsReadingOf text.now result }
 {
-    if keeps_trees(bump) {
+    if keeps_trees(bump) && text.len() <= MOST_WITH_TREES {
         read_message(bump, text)
     } else {
         skim_message(alloc, bump, text)

@@ -159,7 +159,8 @@ impl Gateway {
     /// Once the trees of what is read take more than 16,777,216 bytes, those of later datagrams are not kept: each of
     /// their requests is read when the burst comes in, once more for what it owns and once more to be executed, and one
     /// worker executes the burst, one request after another. So a burst of datagrams of UDP takes some 40 MB for its
-    /// trees at most, and beside that by the number of its transactions; the trees of a longer datagram are kept whole.
+    /// trees at most, and beside that by the number of its transactions. Of a datagram of more than 1,048,576 bytes no
+    /// trees are kept.
     ///
     /// # Errors
     ///
