@@ -24,22 +24,17 @@ use crate::refusal::Refusal;
 use crate::task::{Act, Task};
 use gw_base::{Code, CtxNum, Items, NoMemory, Rules, Service, TermName};
 use gw_reply::ReplyPart;
-use gw_table::{Draft, Guide, Target};
+use gw_table::{Draft, Target};
 use gw_term::Termination;
 use std::alloc::Global;
 
 /// The termination's record becomes this one, or none.
-fn put(
-    draft: &mut Draft,
-    guide: Guide,
-    name: &TermName,
-    entry: Option<Termination>,
-) -> Result<(), NoMemory>
+fn put(draft: &mut Draft, name: &TermName, entry: Option<Termination>) -> Result<(), NoMemory>
     requires { holds draft.old.keys (Term name.now) ≡ true }
     ensures maps { OnOk result (draft.new.maps ≡ put_term draft.old.maps name.now entry) }
     ensures keys { draft.new.keys ≡ draft.old.keys }
 {
-    draft.set_term_at(guide, *name, entry)
+    draft.set_term(*name, entry)
 }
 
 /// What a change makes of the tables.
@@ -47,7 +42,6 @@ fn changed(
     alloc: Global,
     rules: &Rules,
     draft: &mut Draft,
-    guide: Guide,
     name: &TermName,
     change: Change,
 ) -> Result<(), NoMemory>
@@ -57,18 +51,18 @@ fn changed(
 {
     match change {
         Change::Stays => Ok(()),
-        Change::Becomes(record) => put(draft, guide, name, Some(record)),
+        Change::Becomes(record) => put(draft, name, Some(record)),
         Change::Joins(number, record) => {
-            put(draft, guide, name, Some(record))?;
+            put(draft, name, Some(record))?;
             draft.join(alloc, number, *name, usize::from(rules.members))
         }
         Change::Crosses(from, number, record) => {
-            put(draft, guide, name, Some(record))?;
+            put(draft, name, Some(record))?;
             draft.leave(from, name)?;
             draft.join(alloc, number, *name, usize::from(rules.members))
         }
         Change::Leaves(number, remains) => {
-            put(draft, guide, name, remains)?;
+            put(draft, name, remains)?;
             draft.leave(number, name)
         }
     }
@@ -92,12 +86,11 @@ fn act_on(
     ensures keys { draft.new.keys ≡ draft.old.keys }
     ensures same { IsSameCommand prepared.old prepared.new }
 {
-    let name = target.name();
-    let Some((old, guide)) = draft.term_at(target.guide(), name) else {
+    let Some(old) = draft.term_at(target) else {
         return Err(Refusal::Code(Code::UnknownTermination));
     };
     let decided = decided(alloc, draft, act, &mut prepared.merger, old, wanted)?;
-    changed(alloc, prepared.rules, draft, guide, name, decided.change)?;
+    changed(alloc, prepared.rules, draft, target.name(), decided.change)?;
     Ok(decided.parts)
 }
 
@@ -113,15 +106,14 @@ fn serve(
     ensures gives { (rules : TheRules) (c : Command) (wanted : Bool) → Does (does.Serve place service) c → Gives result draft.new.maps (answered wanted (on_name rules place c target.now draft.old.maps)) }
     ensures keys { draft.new.keys ≡ draft.old.keys }
 {
-    let name = target.name();
-    let Some((old, guide)) = draft.term_at(target.guide(), name) else {
+    let Some(old) = draft.term_at(target) else {
         return Err(Refusal::Code(Code::UnknownTermination));
     };
     if let Some(code) = refusal_elsewhere(place, old.place()) {
         return Err(Refusal::Code(code));
     }
     let given = service.unwrap_or(old.service());
-    draft.set_service_at(guide, name, given)?;
+    draft.set_service(target.name(), given)?;
     Ok(Items::new(alloc))
 }
 
@@ -170,13 +162,6 @@ pub(crate) fn on_new(
 {
     let new = Termination::ephemeral(slot);
     let decided = decided(alloc, draft, act, &mut prepared.merger, &new, wanted)?;
-    changed(
-        alloc,
-        prepared.rules,
-        draft,
-        Guide::none(),
-        name,
-        decided.change,
-    )?;
+    changed(alloc, prepared.rules, draft, name, decided.change)?;
     Ok(decided.parts)
 }

@@ -35,7 +35,7 @@ use gw_base::{Code, Items, NoMemory, Rules, TermName, TermRef};
 use gw_msg::Command;
 use gw_refusal::{At, targets};
 use gw_reply::{CommandReply, ReplyWriter};
-use gw_table::{Draft, Guide, Target, slot_name};
+use gw_table::{Draft, Target, slot_name};
 use std::alloc::Global;
 use std::slice;
 
@@ -192,14 +192,6 @@ fn executed(
     }
 }
 
-/// Where the first target may stand.
-fn guide_of(named: &[Target]) -> Guide {
-    match named.first() {
-        Some(target) => target.guide(),
-        None => Guide::none(),
-    }
-}
-
 /// Executes a command whose form is allowed on these targets, unless the tables refuse it.
 fn on_allowed(
     alloc: Global,
@@ -224,7 +216,6 @@ fn on_allowed(
         execution.at,
         execution.slot,
         prepared,
-        guide_of(named),
         !named.is_empty(),
     ) {
         return refused(writer, execution.at, prepared.command, code);
@@ -265,7 +256,7 @@ pub fn command_written(
     };
     let execution = Execution { at, slot, task };
     if let TermRef::Name(name) = &command.term {
-        let target = Target::found(*name, draft.guide(name));
+        let target = Target::named(*name);
         let named = slice::from_ref(&target);
         return on_allowed(alloc, draft, execution, prepared, named, writer);
     }

@@ -20,7 +20,7 @@ use crate::task::{Act, Execution, Task};
 use gw_base::{Code, NoMemory};
 use gw_refusal::{has_targets, is_wildcard};
 use gw_reply::{CommandReply, ReplyWriter};
-use gw_table::{Draft, Guide};
+use gw_table::Draft;
 use std::alloc::Global;
 
 /// Whether a command leaves each termination as it is: an AuditValue, and without descriptors a Modify and an Add into
@@ -90,14 +90,7 @@ pub(crate) fn on_idle(
 {
     let command = prepared.command;
     let any = has_targets(draft, execution.at, command);
-    if let Some(code) = refusal_by_tables(
-        draft,
-        execution.at,
-        execution.slot,
-        prepared,
-        Guide::none(),
-        any,
-    ) {
+    if let Some(code) = refusal_by_tables(draft, execution.at, execution.slot, prepared, any) {
         return refused(writer, execution.at, command, code);
     }
     let seen = seen_idle(execution.task);

@@ -8,7 +8,7 @@ ghost use Rattle.gw_cmd.specs.Refusals.{has_ended, missing, refusal_by_tables};
 use crate::prepared::Prepared;
 use gw_base::{Code, TermRef};
 use gw_refusal::At;
-use gw_table::{Draft, Guide};
+use gw_table::Draft;
 
 /// Whether the action's context has ended.
 fn has_ended(draft: &Draft, at: At) -> bool
@@ -26,16 +26,13 @@ fn missing(
     at: At,
     slot: Option<u16>,
     prepared: &Prepared<'_, '_>,
-    guide: Guide,
     any: bool,
 ) -> Option<Code>
     requires { any ≡ is_some_list (targets at prepared.now.command.now draft.now.maps) }
     ensures { result ≡ missing at slot prepared.now.command.now draft.now.maps prepared.now.command.now.term }
 {
     match prepared.command.term {
-        TermRef::Name(name) if draft.term_at(guide, &name).is_none() => {
-            Some(Code::UnknownTermination)
-        }
+        TermRef::Name(name) if draft.term(&name).is_none() => { Some(Code::UnknownTermination) }
         TermRef::All | TermRef::Under(_) if !any => Some(Code::NoWildcardMatch),
         TermRef::Choose if slot.is_none() => Some(Code::NoTerminationLeft),
         _ => None,
@@ -51,7 +48,6 @@ pub(crate) fn refusal_by_tables(
     at: At,
     slot: Option<u16>,
     prepared: &Prepared<'_, '_>,
-    guide: Guide,
     any: bool,
 ) -> Option<Code>
     requires { any ≡ is_some_list (targets at prepared.now.command.now draft.now.maps) }
@@ -60,7 +56,7 @@ pub(crate) fn refusal_by_tables(
     if has_ended(draft, at) {
         return Some(Code::UnknownContext);
     }
-    if let Some(code) = missing(draft, at, slot, prepared, guide, any) {
+    if let Some(code) = missing(draft, at, slot, prepared, any) {
         return Some(code);
     }
     prepared.wrong

@@ -11,9 +11,9 @@ ghost use Rattle.gw_table.specs.UndoLog.{keys_written, undone};
 ghost use Rattle.gw_table.specs.Parts.{Over, Only, list_of, start_of, holds};
 ghost use Rattle.gw_table.specs.Stored.{maps_of, NoneIsOut, AreReady, KeepReady, NoOtherReady};
 
+use crate::free::Target;
 use crate::in_place::InPlace;
 use crate::part::Part;
-use crate::rows::Guide;
 use crate::tables::Tables;
 use crate::undo_log::UndoLog;
 use gw_base::{CtxNum, NoMemory, Service, TermName};
@@ -86,22 +86,15 @@ impl Draft {
         }
     }
 
-    /// Where the termination of a name stands in whole tables, if there is one: the guide of `term_at`, `set_term_at`
-    /// and `set_service_at`. It is one look-up. Of a part it is none, without a look-up.
-    pub fn guide(&self, name: &TermName) -> Guide {
-        match &self.backing {
-            Backing::OfPart(_) => Guide::none(),
-            Backing::OfTables(backing) => backing.tables.terms.find(name).unwrap_or(Guide::none()),
-        }
-    }
-
-    /// The termination of a name, and where it stands. In whole tables it takes no look-up where the guide is right.
-    pub fn term_at(&self, guide: Guide, name: &TermName) -> Option<(&Termination, Guide)>
-        ensures { option_map (λ p. p.0.now) result ≡ term self.now.maps name.now }
+    /// The termination that a command is for. In whole tables it is no look-up where the target was found.
+    pub fn term_at(&self, target: &Target) -> Option<&Termination>
+        ensures { option_copied result ≡ term self.now.maps target.now }
     {
         match &self.backing {
-            Backing::OfPart(part) => Some((part.term(name)?, guide)),
-            Backing::OfTables(backing) => backing.tables.find_term_at(guide, name),
+            Backing::OfPart(part) => part.term(target.name()),
+            Backing::OfTables(backing) => backing
+                .tables
+                .find_term_at(target.guide(), target.name()),
         }
     }
 
@@ -126,32 +119,12 @@ impl Draft {
         ensures err { OnErr result (self.new.maps ≡ self.old.maps) }
         ensures keys { self.new.keys ≡ self.old.keys }
     {
-        self.set_term_at(Guide::none(), name, entry)
-    }
-
-    /// Sets the termination of a name, or none, as `set_term` does. In whole tables it takes no look-up where the guide
-    /// is right.
-    ///
-    /// # Errors
-    ///
-    /// Out of memory. The draft is as it was.
-    pub fn set_term_at(
-        &mut self,
-        guide: Guide,
-        name: TermName,
-        entry: Option<Termination>,
-    ) -> Result<(), NoMemory>
-        requires { holds self.old.keys (Term name) ≡ true }
-        ensures maps { OnOk result (self.new.maps ≡ put_term self.old.maps name entry) }
-        ensures err { OnErr result (self.new.maps ≡ self.old.maps) }
-        ensures keys { self.new.keys ≡ self.old.keys }
-    {
         match &mut self.backing {
             Backing::OfPart(part) => {
                 part.set_term(&name, entry);
                 Ok(())
             }
-            Backing::OfTables(backing) => backing.set_term(guide, &name, entry),
+            Backing::OfTables(backing) => backing.set_term(&name, entry),
         }
     }
 
@@ -205,31 +178,12 @@ impl Draft {
         ensures maps { OnOk result (self.new.maps ≡ put_service service name.now self.old.maps (term self.old.maps name.now)) }
         ensures keys { self.new.keys ≡ self.old.keys }
     {
-        self.set_service_at(Guide::none(), name, service)
-    }
-
-    /// The termination of a name has another service state, if there is one, as by `set_service`. In whole tables it
-    /// takes no look-up where the guide is right.
-    ///
-    /// # Errors
-    ///
-    /// Out of memory. Nothing is known of the draft then but its keys.
-    pub fn set_service_at(
-        &mut self,
-        guide: Guide,
-        name: &TermName,
-        service: Service,
-    ) -> Result<(), NoMemory>
-        requires { holds self.old.keys (Term name.now) ≡ true }
-        ensures maps { OnOk result (self.new.maps ≡ put_service service name.now self.old.maps (term self.old.maps name.now)) }
-        ensures keys { self.new.keys ≡ self.old.keys }
-    {
         match &mut self.backing {
             Backing::OfPart(part) => {
                 part.set_service(name, service);
                 Ok(())
             }
-            Backing::OfTables(backing) => backing.set_service(guide, name, service),
+            Backing::OfTables(backing) => backing.set_service(name, service),
         }
     }
 

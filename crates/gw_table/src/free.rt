@@ -58,7 +58,7 @@ impl Target {
     }
 
     /// The termination of this name, which was found there.
-    pub fn found(name: TermName, guide: Guide) -> Target
+    pub(crate) fn found(name: TermName, guide: Guide) -> Target
         ensures { result ≡ name }
     {
         Target { name, guide }
@@ -83,7 +83,7 @@ impl Target {
     }
 
     /// Where it may stand.
-    pub fn guide(&self) -> Guide {
+    pub(crate) fn guide(&self) -> Guide {
         self.guide
     }
 }

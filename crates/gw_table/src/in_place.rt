@@ -9,7 +9,6 @@ ghost use Rattle.gw_table.specs.Stored.{maps_of, NoneIsOut, AreReady, KeepReady,
 
 use crate::place::Place;
 use crate::row::Found;
-use crate::rows::Guide;
 use crate::tables::Tables;
 use crate::undo_log::{UndoLog, Write, make_room};
 use gw_base::{CtxNum, NoMemory, Service, TermName};
@@ -71,7 +70,6 @@ impl InPlace {
     /// dropped, since what stood there first is logged.
     pub(crate) fn set_term(
         &mut self,
-        guide: Guide,
         name: &TermName,
         entry: Option<Termination>,
     ) -> Result<(), NoMemory>
@@ -82,7 +80,7 @@ impl InPlace {
         make_room(&mut self.writes)?;
         let found = self
             .tables
-            .write_term(guide, name, Place::of(entry), &self.writes)?;
+            .write_term(name, Place::of(entry), &self.writes)?;
         let Found::Unlogged(before) = found else {
             return Ok(());
         };
@@ -127,17 +125,12 @@ impl InPlace {
 
     /// The termination of a name has another service state, if there is one: in its place where it was written
     /// before, and else as a copy, since what stood there is logged.
-    pub(crate) fn set_service(
-        &mut self,
-        guide: Guide,
-        name: &TermName,
-        service: Service,
-    ) -> Result<(), NoMemory>
+    pub(crate) fn set_service(&mut self, name: &TermName, service: Service) -> Result<(), NoMemory>
         ensures maps { OnOk result (self.new.maps ≡ put_service service name.now self.old.maps (term self.old.maps name.now)) }
         ensures keys { self.new.keys ≡ self.old.keys }
     {
         make_room(&mut self.writes)?;
-        let found = self.tables.set_service(guide, name, service, &self.writes)?;
+        let found = self.tables.set_service(name, service, &self.writes)?;
         let Some(before) = found.into_unlogged() else {
             return Ok(());
         };

@@ -36,7 +36,6 @@ pub use keys::Keys;
 pub use laws::{part_put_back, slots_have_names_of_their_own, sound_part};
 pub use part::Part;
 pub use reserved::{is_reserved, slot_name};
-pub use rows::Guide;
 pub use setting::Setting;
 pub use subtracting::what_remains;
 pub use tables::Tables;

@@ -28,12 +28,17 @@ pub(crate) struct KeyedRow<K, T> {
 /// Where a key was found. That is a guide alone: what stands there is looked at before it is believed, so that an old
 /// one costs a search and does no harm.
 #[derive(Clone, Copy)]
-pub struct Guide(u32);
+pub(crate) struct Guide(u32);
 
 impl Guide {
-    /// Of a key that was not looked for.
-    pub fn none() -> Guide {
+    /// Of a key that was not looked for: it is where the key is that was found last, or elsewhere.
+    pub(crate) fn none() -> Guide {
         Guide(u32::MAX)
+    }
+
+    /// This one, or the other where it is none.
+    fn or(self, other: Guide) -> Guide {
+        if self.0 == u32::MAX { other } else { self }
     }
 
     /// Of the row with this number. Of one that does not fit it is as of none.
@@ -88,8 +93,8 @@ impl<K, T> KeyedRow<K, T> {
     }
 }
 
-/// The number of the row of a key, if it has one: the guide where it is right, and else what the index has, which is
-/// then what was found last.
+/// The number of the row of a key, if it has one: the guide where it is right, and else what the index has. The row is
+/// then the one that was found last.
 fn number_of<K: Ord, T>(
     index: &BTreeMap<K, usize>,
     rows: &Slab<KeyedRow<K, T>>,
@@ -100,9 +105,12 @@ fn number_of<K: Ord, T>(
     requires { IsTied K.cmp index.now.entries rows.now.slots }
     ensures { result ≡ lookup (is_at (K.cmp key.now)) index.now.entries }
 {
+    let found_last = last.get();
+    let guide = guide.or(found_last);
     let number = guide.0 as usize;
     if let Some(keyed) = rows.get(number) {
         if keyed.key == *key {
+            last.set(guide);
             return Some(number);
         }
     }
@@ -177,7 +185,7 @@ impl<K: Ord, T> Rows<K, T> {
     pub(crate) fn get(&self, key: &K) -> Option<&Row<T>>
         ensures value { option_copied result ≡ found K.cmp self.now key.now }
     {
-        self.get_at(self.last.get(), key)
+        self.get_at(Guide::none(), key)
     }
 
     /// What stands at a key, to be changed. It is not searched for where it was found last.
@@ -185,8 +193,7 @@ impl<K: Ord, T> Rows<K, T> {
         ensures* writes_back { sem 𝓛 (LendsFound K.row T.row K.Ord self.entry key.now result) }
         ensures value { option_copied_mut result ≡ found K.cmp self.old key.now }
     {
-        let guide = self.last.get();
-        self.get_mut_at(guide, key)
+        self.get_mut_at(Guide::none(), key)
     }
 
     /// What stands at a key, to be changed. The guide is looked at first, as by `get_at`.

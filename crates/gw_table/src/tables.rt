@@ -164,21 +164,11 @@ impl Tables {
         entry_at(place_at(self.terms.get(name)))
     }
 
-    /// The termination of a name, and where it stands. One that is out is not found.
-    pub(crate) fn find_term_at(
-        &self,
-        guide: Guide,
-        name: &TermName,
-    ) -> Option<(&Termination, Guide)>
-        ensures { option_map (λ p. p.0.now) result ≡ term (maps_of self.now) name.now }
+    /// The termination of a name, which is looked for where the guide says first. One that is out is not found.
+    pub(crate) fn find_term_at(&self, guide: Guide, name: &TermName) -> Option<&Termination>
+        ensures { option_copied result ≡ term (maps_of self.now) name.now }
     {
-        let Some(row) = self.terms.get_at(guide, name) else {
-            return None;
-        };
-        match entry_at(Some(row.place())) {
-            Some(termination) => Some((termination, row.guide())),
-            None => None,
-        }
+        entry_at(place_at(self.terms.get_at(guide, name)))
     }
 
     /// The context with a number. One that is out is not found.

@@ -10,7 +10,6 @@ ghost use Rattle.gw_table.specs.Stored.{maps_of, put_term_place, put_ctx_place, 
 use crate::in_use::{set_number, set_slot};
 use crate::place::Place;
 use crate::row::{Found, Row};
-use crate::rows::Guide;
 use crate::tables::Tables;
 use crate::undo_log::Write;
 use gw_base::{CtxNum, Key, NoMemory, Service, TermName};
@@ -19,11 +18,10 @@ use gw_term::Termination;
 
 impl Tables {
     /// Sets the place of a termination, and answers what was found there: that the name is logged in the list of
-    /// writes, or what the caller logs next. It is no look-up where the guide is right, and else one, or two where the
-    /// name has no place. A refused allocation changes nothing.
+    /// writes, or what the caller logs next. It is one look-up, or two where the name has no place. A refused
+    /// allocation changes nothing.
     pub(crate) fn write_term(
         &mut self,
-        guide: Guide,
         name: &TermName,
         place: Place<Termination>,
         writes: &[Write],
@@ -33,7 +31,7 @@ impl Tables {
         ensures err { OnErr result (self.new ≡ self.old) }
     {
         let stands = place.is_here();
-        if let Some(row) = self.terms.get_mut_at(guide, name) {
+        if let Some(row) = self.terms.get_mut(name) {
             let found = row.write(place, writes, &Key::Term(*name));
             set_slot(&mut self.slots, name, stands);
             return Ok(found);
@@ -88,11 +86,10 @@ impl Tables {
     }
 
     /// The termination of a name has another service state, if there is one: in its place where the name is logged in
-    /// the list of writes, and else as a copy. Answers what was found there, as `write_term` does. It is one look-up
-    /// where the guide is not right. Out of memory nothing has changed.
+    /// the list of writes, and else as a copy. Answers what was found there, as `write_term` does. It is one
+    /// look-up. Out of memory nothing has changed.
     pub(crate) fn set_service(
         &mut self,
-        guide: Guide,
         name: &TermName,
         service: Service,
         writes: &[Write],
@@ -101,7 +98,7 @@ impl Tables {
         ensures after { OnOk result (self.new ≡ with_service service name.now self.old (term (maps_of self.old) name.now)) }
         ensures err { OnErr result (self.new ≡ self.old) }
     {
-        let Some(row) = self.terms.get_mut_at(guide, name) else {
+        let Some(row) = self.terms.get_mut(name) else {
             return Ok(Found::Unlogged(None));
         };
         row.serve(service, writes, &Key::Term(*name))

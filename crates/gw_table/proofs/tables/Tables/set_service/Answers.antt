@@ -24,15 +24,15 @@ use Rattle.gw_table.proofs.tables.Tables.set_service.Goals as goal
 
 pub returns-in_default-clause-found : goal.returns-in_default-clause-found
 returns-in_default-clause-found c =
-    ap (λ o. visible (option_copied_mut o)) (sym c.in_default.is) ∙ ap (λ o. visible o) (c.get_mut_at.ensures.value ∙ term_seen c.self.inside.terms.entries c.self.inside.contexts.entries c.args.self.now c.args.name.now c.self.view_is)
+    ap (λ o. visible (option_copied_mut o)) (sym c.in_default.is) ∙ ap (λ o. visible o) (c.get_mut.ensures.value ∙ term_seen c.self.inside.terms.entries c.self.inside.contexts.entries c.args.self.now c.args.name.now c.self.view_is)
     ∙ sym (term-maps_of c.args.self.now c.args.name.now)
 
 pub returns-in_default-clause-after : goal.returns-in_default-clause-after
 returns-in_default-clause-after c =
     let nothing : None ≡ term (maps_of c.args.self.now) c.args.name.now = ap (λ o. visible (option_copied_mut o)) (sym c.in_default.is)
-    ∙ ap (λ o. visible o) (c.get_mut_at.ensures.value ∙ term_seen c.self.inside.terms.entries c.self.inside.contexts.entries c.args.self.now c.args.name.now c.self.view_is)
+    ∙ ap (λ o. visible o) (c.get_mut.ensures.value ∙ term_seen c.self.inside.terms.entries c.self.inside.contexts.entries c.args.self.now c.args.name.now c.self.view_is)
     ∙ sym (term-maps_of c.args.self.now c.args.name.now) in
-    ap (λ (m : Rowed (List ℕ) (Place Termination)). stored m.entries c.self.inside.contexts.entries) c.get_mut_at.follows.holds-at-none ∙ c.self.view_is
+    ap (λ (m : Rowed (List ℕ) (Place Termination)). stored m.entries c.self.inside.contexts.entries) c.get_mut.follows.holds-at-none ∙ c.self.view_is
     ∙ ap (λ (o : Option Termination). with_service c.args.service c.args.name.now c.args.self.now o) nothing
 
 module _ (c : goal.After-self-2-1) where
@@ -43,12 +43,12 @@ module _ (c : goal.After-self-2-1) where
   new = c.serve.new.self
 
   was : Some c.in-Some.row.now ≡ finite.get now.terms c.args.name.now
-  was = ap (λ o. option_copied_mut o) (sym c.in-Some.is) ∙ c.get_mut_at.ensures.value ∙ term_seen c.self.inside.terms.entries c.self.inside.contexts.entries now c.args.name.now c.self.view_is
+  was = ap (λ o. option_copied_mut o) (sym c.in-Some.is) ∙ c.get_mut.ensures.value ∙ term_seen c.self.inside.terms.entries c.self.inside.contexts.entries now c.args.name.now c.self.view_is
 
-  written : stored (c.get_mut_at.follows.lender new).entries c.self.inside.contexts.entries ≡ put_term_place now c.args.name.now new
+  written : stored (c.get_mut.follows.lender new).entries c.self.inside.contexts.entries ≡ put_term_place now c.args.name.now new
   written =
-      term_written c.self.inside.terms.entries (c.get_mut_at.follows.lender new).entries c.self.inside.contexts.entries c.args.name.now new
-      (c.get_mut_at.follows.holds new (ap (λ o. is_some o) (sym c.get_mut_at.ensures.value) ∙ ap (λ o. is_some (option_copied_mut o)) c.in-Some.is))
+      term_written c.self.inside.terms.entries (c.get_mut.follows.lender new).entries c.self.inside.contexts.entries c.args.name.now new
+      (c.get_mut.follows.holds new (ap (λ o. is_some o) (sym c.get_mut.ensures.value) ∙ ap (λ o. is_some (option_copied_mut o)) c.in-Some.is))
       ∙ ap (λ (s : Stored). put_term_place s c.args.name.now new) c.self.view_is
 
   seen_here : visible (Some c.in-Some.row.now) ≡ term (maps_of c.args.self.now) c.args.name.now
@@ -88,7 +88,7 @@ stays (Err e) state p q a b = ap (λ (x : Place Termination). is_some (visible (
 pub invariant_of-self-2 : goal.invariant_of-self-2
 invariant_of-self-2 c =
     let before : Stored = stored c.self.inside.terms.entries c.self.inside.contexts.entries in
-    let after : Stored = stored (c.get_mut_at.follows.lender (new c)).entries c.self.inside.contexts.entries in
+    let after : Stored = stored (c.get_mut.follows.lender (new c)).entries c.self.inside.contexts.entries in
     let name : List ℕ = c.args.name.now in
     marked_still c.self.inside.numbers c.self.inside.slots (put_term (maps_of before) name (visible (Some (new c)))) (maps_of after)
     (ap (λ s. maps_of s) (written c ∙ ap (λ (s : Stored). put_term_place s name (new c)) (sym c.self.view_is)) ∙ maps-put_term_place before name (new c))
