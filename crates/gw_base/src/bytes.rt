@@ -4,7 +4,7 @@ ghost use Rattle.std.specs.Prelude.{◌≡◌};
 ghost use Rattle.gw_base.specs.Bytes.{is_letter, is_digit, is_hex_digit, is_name_mark, is_name_byte};
 
 /// A letter of either case.
-pub fn is_letter(b: u8) -> bool
+pub(crate) fn is_letter(b: u8) -> bool
     ensures { result ≡ is_letter b }
 {
     b.is_ascii_alphabetic()

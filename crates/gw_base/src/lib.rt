@@ -22,7 +22,7 @@ mod short;
 mod span;
 mod term_ref;
 
-pub use bytes::{is_digit, is_letter};
+pub use bytes::is_digit;
 pub use code::Code;
 pub use command_words::{CtxRef, Rules, Service, Verb};
 pub use config::Config;

@@ -53,7 +53,7 @@ impl<'h, 'a> RequestRef<'h, 'a> {
     }
 
     /// Its tree, if the message keeps it.
-    pub fn kept_tree(&self) -> Option<&Request<'a>>
+    pub(crate) fn kept_tree(&self) -> Option<&Request<'a>>
         ensures { IfSome result (λ tree. tree.now ≡ self.now) }
     {
         self.source.kept_tree()

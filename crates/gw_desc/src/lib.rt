@@ -24,6 +24,6 @@ pub use laws::{
 };
 pub use tails::{optional_group, tail};
 pub use values::{
-    AuditItem, Mode, is_mode, is_parm, is_service_states, item_of, mode_of, mode_set_by,
-    service_of, service_set_by, uint32_of,
+    AuditItem, Mode, is_mode, is_parm, is_service_states, item_of, mode_set_by, service_set_by,
+    uint32_of,
 };

@@ -58,7 +58,7 @@ fn often_mode(value: &[u8]) -> Option<Mode>
 
 /// The mode that a value is.
 #[tactic(auto, unfolding(crate::specs::Values::mode_of))]
-pub fn mode_of(value: &[u8]) -> Option<Mode>
+pub(crate) fn mode_of(value: &[u8]) -> Option<Mode>
     ensures { result ≡ mode_of value.now }
 {
     if let Some(mode) = often_mode(value) {
@@ -76,7 +76,7 @@ pub fn mode_of(value: &[u8]) -> Option<Mode>
 
 /// The service state that a value is.
 #[tactic(auto, unfolding(crate::specs::Values::service_of))]
-pub fn service_of(value: &[u8]) -> Option<Service>
+pub(crate) fn service_of(value: &[u8]) -> Option<Service>
     ensures { result ≡ service_of value.now }
 {
     match token_of(value) {

@@ -39,7 +39,7 @@ impl<'a> Model for RequestSource<'a> {
 
 impl<'a> RequestSource<'a> {
     /// A request with its tree.
-    pub fn of_tree(request: Request<'a>) -> RequestSource<'a>
+    pub(crate) fn of_tree(request: Request<'a>) -> RequestSource<'a>
         ensures { result ≡ request.entry }
     {
         RequestSource {

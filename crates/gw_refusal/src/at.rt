@@ -40,7 +40,7 @@ impl At {
     }
 
     /// Whether it is the null context.
-    pub fn is_null(self) -> bool
+    pub(crate) fn is_null(self) -> bool
         ensures { result ≡ is_null self }
     {
         matches!(self, At::Null)

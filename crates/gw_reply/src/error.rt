@@ -11,7 +11,7 @@ use std::alloc::AllocError;
 /// section 7.1.19 and Annex B.2, errorDescriptor). The number is `Code::number`, and the text `Code::text`. It is a
 /// look-up: nothing is formatted.
 #[tactic(auto, using(crate::proofs::Digits::three_digits))]
-pub fn error_descriptor(code: Code) -> &'static str
+pub(crate) fn error_descriptor(code: Code) -> &'static str
     ensures { result.now ≡ error_text code }
 {
     match code {

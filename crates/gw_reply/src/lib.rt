@@ -14,7 +14,6 @@ mod wire;
 mod writer;
 
 pub use context_parts::ContextPart;
-pub use error::error_descriptor;
 pub use message::{write_fault, write_framed_reply, write_reply};
 pub use parts::{
     AuditReply, FilledStream, KeptProperty, KeptTail, MediaReply, ReplyPart, StreamReply,
