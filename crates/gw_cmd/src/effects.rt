@@ -4,7 +4,7 @@ ghost use Rattle.std.specs.Prelude.{◌≡◌, true, None, OnOk, Bool};
 ghost use Rattle.gw_base.specs.declared.command_words.Rules.{Rules as TheRules};
 ghost use Rattle.gw_base.specs.declared.key.Key.TheVariants.{Term};
 ghost use Rattle.gw_msg.specs.declared.message.Command.{Command};
-ghost use Rattle.gw_table.specs.Maps.{term, put_term, place_of};
+ghost use Rattle.gw_table.specs.Maps.{term, place_of};
 ghost use Rattle.gw_table.specs.Parts.{holds, HoldsPlace};
 ghost use Rattle.gw_table.specs.WellFormed.{IsSound};
 ghost use Rattle.gw_term.specs.Record.{ephemeral};
@@ -28,15 +28,6 @@ use gw_table::{Draft, Target};
 use gw_term::Termination;
 use std::alloc::Global;
 
-/// The termination's record becomes this one, or none.
-fn put(draft: &mut Draft, name: &TermName, entry: Option<Termination>) -> Result<(), NoMemory>
-    requires { holds draft.old.keys (Term name.now) ≡ true }
-    ensures maps { OnOk result (draft.new.maps ≡ put_term draft.old.maps name.now entry) }
-    ensures keys { draft.new.keys ≡ draft.old.keys }
-{
-    draft.set_term(*name, entry)
-}
-
 /// What a change makes of the tables.
 fn changed(
     alloc: Global,
@@ -51,18 +42,18 @@ fn changed(
 {
     match change {
         Change::Stays => Ok(()),
-        Change::Becomes(record) => put(draft, name, Some(record)),
+        Change::Becomes(record) => draft.set_term(*name, Some(record)),
         Change::Joins(number, record) => {
-            put(draft, name, Some(record))?;
+            draft.set_term(*name, Some(record))?;
             draft.join(alloc, number, *name, usize::from(rules.members))
         }
         Change::Crosses(from, number, record) => {
-            put(draft, name, Some(record))?;
+            draft.set_term(*name, Some(record))?;
             draft.leave(from, name)?;
             draft.join(alloc, number, *name, usize::from(rules.members))
         }
         Change::Leaves(number, remains) => {
-            put(draft, name, remains)?;
+            draft.set_term(*name, remains)?;
             draft.leave(number, name)
         }
     }
