@@ -166,6 +166,6 @@ module _ (profile : Profile) (start : Stored) (maps : Maps) (places : List Place
     is_ended : ended ≡ record { profile = b.profile; start = b.start; maps = o.maps; places = slice_set b.places i closed; undo_log = ended.undo_log }
     is_ended = λ j. record { profile = b.profile; start = b.start; maps = same_outcome j; places = same_places j; undo_log = ended.undo_log }
 
-    -- with the place closed the way goes on, by the journal that opening and closing it leaves
+    -- with the place closed the way goes on, by the undo log that opening and closing it leaves
     pub alone_goes_on : MayGoOn profile start o.maps (slice_set b.places i closed)
     alone_goes_on = record { undo_log = ended.undo_log; way = subst IsOnTheWay is_ended way; none = alone_none }

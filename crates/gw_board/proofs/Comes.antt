@@ -17,7 +17,7 @@ use Rattle.gw_table.proofs.Lookups.{same_maps}
 use Rattle.gw_table.proofs.PartLookups.{term-restricted, ctx-restricted, term-cut, ctx-cut, term-overlaid, ctx-overlaid}
 use Rattle.gw_board.specs.Carried.{BurstRequest, carried}
 use Rattle.gw_board.specs.Core.{Standing, Pending, Opened, Closed, Place, Core, start, Event, Events}
-use Rattle.gw_board.specs.Journal.{undo_step_of, journal, undone}
+use Rattle.gw_board.specs.UndoLog.{undo_step_of, undo_log_of, undone}
 use Rattle.gw_board.specs.Results.{is_open, NothingIsOpen, part_back, all_back, carried_at, carried_on, result_of, AreClosed, slots_of}
 use Rattle.gw_board.proofs.Orders.{each_in}
 use Rattle.gw_board.proofs.Outs.{any-append, cut_none}
@@ -76,7 +76,7 @@ result_kept profile s k =
 pub results_are : (profile : Profile) (workers : ℕ) (requested : List BurstRequest) (m : Maps) (s : Core) → AreWellFormed profile.rules.members m → AreUnused m [] (slots_of requested) → Events profile (start workers requested m) s → result_of profile s ≡ carried profile requested m
 results_are profile workers requested m s w u events =
     let k : FitsTogether profile (start workers requested m) = kept_start profile workers requested m w u in
-    let l : Leaves profile (start workers requested m) s k (journal events) = steps_leave profile (start workers requested m) s k events in
+    let l : Leaves profile (start workers requested m) s k (undo_log_of events) = steps_leave profile (start workers requested m) s k events in
     result_kept profile s l.kept ∙ l.same ∙ carried_start profile requested m
 
 -- ---- where nothing is open
@@ -129,11 +129,11 @@ out_of_none (p ∷ ps) h q =
     by (Opened j) e = absurd cc
     by (Closed reply) e = refl
 
-pub undone_is : (profile : Profile) (workers : ℕ) (requested : List BurstRequest) (m : Maps) (s : Core) → AreWellFormed profile.rules.members m → AreUnused m [] (slots_of requested) → (events : Events profile (start workers requested m) s) → NothingIsOpen s → undone (journal events) s.maps ≡ m
+pub undone_is : (profile : Profile) (workers : ℕ) (requested : List BurstRequest) (m : Maps) (s : Core) → AreWellFormed profile.rules.members m → AreUnused m [] (slots_of requested) → (events : Events profile (start workers requested m) s) → NothingIsOpen s → undone (undo_log_of events) s.maps ≡ m
 undone_is profile workers requested m s w u events h =
     let k : FitsTogether profile (start workers requested m) = kept_start profile workers requested m w u in
-    let l : Leaves profile (start workers requested m) s k (journal events) = steps_leave profile (start workers requested m) s k events in
-    ap (undone (journal events)) (l.kept.maps ∙ cut_none (out s.places) l.kept.whole (out_of_none s.places h)) ∙ l.back
+    let l : Leaves profile (start workers requested m) s k (undo_log_of events) = steps_leave profile (start workers requested m) s k events in
+    ap (undone (undo_log_of events)) (l.kept.maps ∙ cut_none (out s.places) l.kept.whole (out_of_none s.places h)) ∙ l.back
 
 -- ---- one event
 

@@ -15,7 +15,7 @@ use Rattle.gw_board.specs.Boards.{Seen, core_of, is_closed, is_pending_at, AllCl
 use Rattle.gw_board.specs.Carried.{BurstRequest}
 use Rattle.gw_board.specs.Core.{Standing, Pending, Opened, Closed, Place, pending}
 use Rattle.gw_board.specs.GoingOn.{MayGoOn}
-use Rattle.gw_board.specs.Journal.{UndoStep, led as led_to, undone}
+use Rattle.gw_board.specs.UndoLog.{UndoStep, led as led_to, undone}
 use Rattle.gw_board.specs.Results.{is_open, NothingIsOpen}
 use Rattle.gw_board.specs.Waves.{is_pending}
 use Rattle.gw_board.proofs.CarriedAlone.{whole_there}
@@ -95,7 +95,7 @@ pub none_pending : (requested : List BurstRequest) → list_any (λ p. is_open p
 none_pending [] = refl
 none_pending (a ∷ more) = none_pending more
 
--- the journal leads from the maps to those of the start
+-- the undo log leads from the maps to those of the start
 pub led_from : (b : Seen) (w : IsOnTheWay b) → NothingIsOpen (core_of b) → undone b.undo_log b.maps ≡ (maps_of b.start)
 led_from b w none = ap (undone b.undo_log) (whole_there b w none) ∙ w.back
 
@@ -103,9 +103,9 @@ module _ (profile : Profile) (start : Stored) (maps : Maps) (places : List Place
   abbrev b : Seen
   b = record { profile = profile; start = start; maps = maps; places = places; undo_log = g.undo_log }
 
-  -- any other journal that leads back is as good
-  pub with_journal : (undo_log : List UndoStep) → undone undo_log maps ≡ maps_of start → IsOnTheWay (record { profile = profile; start = start; maps = maps; places = places; undo_log = undo_log })
-  with_journal undo_log led = record {
+  -- any other undo log that leads back is as good
+  pub with_undo_log : (undo_log : List UndoStep) → undone undo_log maps ≡ maps_of start → IsOnTheWay (record { profile = profile; start = start; maps = maps; places = places; undo_log = undo_log })
+  with_undo_log undo_log led = record {
     begun = record { well = g.way.begun.well; unused = g.way.begun.unused };
     fits = g.way.fits;
     outcome = g.way.outcome;

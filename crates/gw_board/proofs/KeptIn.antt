@@ -12,7 +12,7 @@ use Rattle.gw_board.specs.Boards.{Seen, Handed, HasOpen, core_of, begun_board, j
 use Rattle.gw_board.specs.Carried.{BurstRequest}
 use Rattle.gw_board.specs.Core.{Place, pending, open_with, closed_with, MayOpen}
 use Rattle.gw_board.specs.Fitting.{Each, out_at, out}
-use Rattle.gw_board.specs.Journal.{UndoStep}
+use Rattle.gw_board.specs.UndoLog.{UndoStep}
 use Rattle.gw_board.specs.Results.{NothingIsOpen}
 use Rattle.gw_board.proofs.Closing.{clear_of_others}
 use Rattle.gw_board.proofs.Comes.{out_of_none}

@@ -20,7 +20,7 @@ use Rattle.gw_board.specs.Carried.{BurstRequest, done, carried}
 use Rattle.gw_board.specs.Core.{Place, Job, Core, pending, open_with, closed_with, MayOpen, after_open, drawn, after_draw, after_close, after_return}
 use Rattle.gw_board.specs.Fitting.{FitsTogether}
 use Rattle.gw_board.specs.Jobs.{IsJob}
-use Rattle.gw_board.specs.Journal.{Placed, undone}
+use Rattle.gw_board.specs.UndoLog.{Placed, undone}
 use Rattle.gw_board.specs.Results.{carried_on, slots_of}
 use Rattle.gw_board.proofs.Closing.{job_here}
 use Rattle.gw_board.proofs.Comes.{result_kept}

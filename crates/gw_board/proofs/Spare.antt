@@ -1,4 +1,4 @@
--- Keys that are prepared without an entry: none but those of the journal and of open jobs, where there was none at the start.
+-- Keys that are prepared without an entry: none but those of the undo log and of open jobs, where there was none at the start.
 use Rattle.std.proofs.Common.{◌≡◌, ℕ, Bool, true, false, cond, List, [], ◌∷◌, ◌++◌, None, Some, is_some, refl, sym, ap, ◌∙◌}
 use Rattle.std.specs.Prelude.{◌||◌, slice_get}
 use Rattle.gw_base.specs.declared.key.Key.{Key}
@@ -18,14 +18,14 @@ use Rattle.gw_board.specs.Boards.{Seen, Handed, HasOpen, core_of, job_of, undo_s
 use Rattle.gw_board.specs.Carried.{BurstRequest}
 use Rattle.gw_board.specs.Core.{Place, pending, open_with, closed_with}
 use Rattle.gw_board.specs.Fitting.{Each, out}
-use Rattle.gw_board.specs.Journal.{UndoStep, in_journal}
+use Rattle.gw_board.specs.UndoLog.{UndoStep, is_logged}
 use Rattle.gw_board.specs.Results.{NothingIsOpen}
 use Rattle.gw_board.specs.BoardEntries.{undo_step_of_writes}
 use Rattle.gw_board.proofs.Comes.{out_of_none}
 use Rattle.gw_board.proofs.KeptIn.{others, was_out, now_out}
 use Rattle.gw_board.proofs.Orders.{each_map}
 
--- ---- keys of the journal
+-- ---- keys of the undo log
 
 one_more : (a b c : Bool) → (a || (b || c)) ≡ ((a || b) || c)
 one_more true b c = refl
@@ -35,16 +35,16 @@ or_none : (b : Bool) → (b || false) ≡ b
 or_none true = refl
 or_none false = refl
 
-journal_more : (undo_log : List UndoStep) (o : UndoStep) (k : Key) → in_journal (undo_log ++ o ∷ []) k ≡ (in_journal undo_log k || has o.keys k)
-journal_more [] o k = or_none (has o.keys k)
-journal_more (p ∷ ps) o k = ap (λ b. has p.keys k || b) (journal_more ps o k) ∙ one_more (has p.keys k) (in_journal ps k) (has o.keys k)
+logged_more : (undo_log : List UndoStep) (o : UndoStep) (k : Key) → is_logged (undo_log ++ o ∷ []) k ≡ (is_logged undo_log k || has o.keys k)
+logged_more [] o k = or_none (has o.keys k)
+logged_more (p ∷ ps) o k = ap (λ b. has p.keys k || b) (logged_more ps o k) ∙ one_more (has p.keys k) (is_logged ps k) (has o.keys k)
 
--- each key of the journal was swept
-among : (undo_log : List UndoStep) (t : Stored) → Each (λ o. AreSweptAmong o.keys t) undo_log → (k : Key) → in_journal undo_log k ≡ true → is_ready t k ≡ has_entry (maps_of t) k
+-- each key of the undo log was swept
+among : (undo_log : List UndoStep) (t : Stored) → Each (λ o. AreSweptAmong o.keys t) undo_log → (k : Key) → is_logged undo_log k ≡ true → is_ready t k ≡ has_entry (maps_of t) k
 among [] t each k h = absurd cc
 among (o ∷ os) t each k h = by (has o.keys k) refl h (among os t each.1 k)
   where
-    by : (b : Bool) → has o.keys k ≡ b → (b || in_journal os k) ≡ true → (in_journal os k ≡ true → is_ready t k ≡ has_entry (maps_of t) k) → is_ready t k ≡ has_entry (maps_of t) k
+    by : (b : Bool) → has o.keys k ≡ b → (b || is_logged os k) ≡ true → (is_logged os k ≡ true → is_ready t k ≡ has_entry (maps_of t) k) → is_ready t k ≡ has_entry (maps_of t) k
     by true e g later = each.0 k e
     by false e g later = later g
 
@@ -86,7 +86,7 @@ pub result_spare : (b : Seen) (h : Handed) → HasOpen b h → (s t : Stored) (p
     → NoneIsSpare b.start s b.undo_log b.places → NoneIsSpare b.start t (with_result b h).undo_log (with_result b h).places
 result_spare b h o s t part same maps spare swept k j u r =
     let x : Place = open_with h.requested (job_of h) in
-    let old = neither (in_journal b.undo_log k) (has h.keys k) (sym (journal_more b.undo_log (undo_step_in h) k) ∙ j) in
+    let old = neither (is_logged b.undo_log k) (has h.keys k) (sym (logged_more b.undo_log (undo_step_in h) k) ∙ j) in
     let beside = sym (now_out b.places h.place x o.stands (closed_with h.requested (outcome_of h).answer) k) ∙ u in
     ap (λ m. has_entry m k) maps ∙ entry_overlaid h.keys part (maps_of s) k old.1
     ∙ spare swept k old.0 (was_out b.places h.place x o.stands k ∙ ap (λ y. y || has (out (others b.places h.place x o.stands)) k) old.1 ∙ beside) (sym (same k) ∙ r)
@@ -94,14 +94,14 @@ result_spare b h o s t part same maps spare swept k j u r =
 pub alone_spare : (b : Seen) → NothingIsOpen (core_of b) → (ws : List Write) (s t : Stored) → NoOtherReady (keys_written ws) s t → taken ws (maps_of t) ≡ maps_of s
     → NoneIsSpare b.start s b.undo_log b.places → (places : List Place) → NoneIsSpare b.start t (b.undo_log ++ undo_step_of_writes ws ∷ []) places
 alone_spare b nothing ws s t alone back spare places swept k j o r =
-    let parts = neither (in_journal b.undo_log k) (has (keys_written ws) k) (sym (journal_more b.undo_log (undo_step_of_writes ws) k) ∙ j) in
+    let parts = neither (is_logged b.undo_log k) (has (keys_written ws) k) (sym (logged_more b.undo_log (undo_step_of_writes ws) k) ∙ j) in
     sym (entry-undone ws (maps_of t) k parts.1) ∙ ap (λ m. has_entry m k) back ∙ spare swept k parts.0 (out_of_none b.places nothing k) (alone k parts.1 r)
 
 pub finished : (start s t : Stored) (undo_log : List UndoStep) (places : List Place) (all : Bool) → maps_of t ≡ maps_of s → ((k : Key) → has (out places) k ≡ false) → KeepReady t s
     → (all ≡ true → AreSwept t) → Each (λ o. AreSweptAmong o.keys t) undo_log → (all ≡ false → NoneIsSpare start s undo_log places) → AreSwept start → AreSwept t
 finished start s t undo_log places true same none fewer at_once each spare swept k = at_once refl k
-finished start s t undo_log places false same none fewer at_once each spare swept k = by (in_journal undo_log k) refl
+finished start s t undo_log places false same none fewer at_once each spare swept k = by (is_logged undo_log k) refl
   where
-    by : (b : Bool) → in_journal undo_log k ≡ b → is_ready t k ≡ has_entry (maps_of t) k
+    by : (b : Bool) → is_logged undo_log k ≡ b → is_ready t k ≡ has_entry (maps_of t) k
     by true e = among undo_log t each k e
     by false e = both_or_none (is_ready t k) (has_entry (maps_of t) k) (λ r. ap (λ m. has_entry m k) same ∙ spare refl swept k e (none k) (fewer k r)) (entry_ready t k)

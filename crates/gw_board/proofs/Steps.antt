@@ -11,7 +11,7 @@ use Rattle.gw_table.specs.WellFormed.{AreWellFormed}
 use Rattle.gw_foot.specs.OwnsUnused.{OwnOthers}
 use Rattle.gw_board.specs.Carried.{BurstRequest, keys_of, done}
 use Rattle.gw_board.specs.Core.{Standing, Pending, Opened, Closed, Place, Job, Core, pending, open_with, closed_with, start, meets_any, MayOpen, after_open, drawn, after_draw, after_close, after_return, Event, Open, Draw, Close, Return, Events, none, more}
-use Rattle.gw_board.specs.Journal.{UndoStep, Placed, led, undo_step_of, journal, undone}
+use Rattle.gw_board.specs.UndoLog.{UndoStep, Placed, led, undo_step_of, undo_log_of, undone}
 use Rattle.gw_board.specs.Results.{carried_at, carried_on, slots_of}
 use Rattle.gw_board.proofs.Closing.{job_here, drawn_stand, back_stand, back_maps, closed_stand, closed_answer, closed_maps, closed_back}
 use Rattle.gw_board.proofs.FirstOfAll.{MayWait, Waits, goes_first}
@@ -175,14 +175,14 @@ pub undone-append : (front later : List UndoStep) (m : Maps) → undone (front +
 undone-append [] later m = refl
 undone-append (o ∷ os) later m = ap (led o) (undone-append os later m)
 
-pub steps_leave : (profile : Profile) (s t : Core) (k : FitsTogether profile s) (es : Events profile s t) → Leaves profile s t k (journal es)
+pub steps_leave : (profile : Profile) (s t : Core) (k : FitsTogether profile s) (es : Events profile s t) → Leaves profile s t k (undo_log_of es)
 steps_leave profile s t k none = record { kept = k; back = refl; same = refl }
 steps_leave profile s t k (more {t = u} event later) =
     let now : Leaves profile s u k (undo_step_of event) = step_leaves profile s u k event in
-    let rest : Leaves profile u t now.kept (journal later) = steps_leave profile u t now.kept later in
+    let rest : Leaves profile u t now.kept (undo_log_of later) = steps_leave profile u t now.kept later in
     record {
       kept = rest.kept;
-      back = undone-append (undo_step_of event) (journal later) rest.kept.whole ∙ ap (undone (undo_step_of event)) rest.back ∙ now.back;
+      back = undone-append (undo_step_of event) (undo_log_of later) rest.kept.whole ∙ ap (undone (undo_step_of event)) rest.back ∙ now.back;
       same = rest.same ∙ now.same;
     }
 

@@ -7,7 +7,7 @@ use Rattle.gw_board.specs.declared.board_entry.Stage.{Stage}
 use Rattle.gw_board.specs.declared.board_entry.Stage.TheVariants as stage
 use Rattle.gw_board.specs.declared.board_entry.BoardEntry.{BoardEntry}
 use Rattle.gw_board.specs.Core.{Standing, Pending, Opened, Closed, Place}
-use Rattle.gw_board.specs.Journal.{UndoStep, Placed, Taken}
+use Rattle.gw_board.specs.UndoLog.{UndoStep, Placed, Taken}
 
 -- a part, as the entries that a job's keys had
 abbrev pub undo_step_of_part : Parted → UndoStep

@@ -10,7 +10,7 @@ use Rattle.gw_board.specs.Boards.{Seen, core_of, requested_in, unclosed}
 use Rattle.gw_board.specs.Carried.{carried}
 use Rattle.gw_board.specs.Fitting.{Each, out, FitsTogether}
 use Rattle.gw_board.specs.Core.{Place}
-use Rattle.gw_board.specs.Journal.{UndoStep, in_journal, undone}
+use Rattle.gw_board.specs.UndoLog.{UndoStep, is_logged, undone}
 use Rattle.gw_board.specs.Candidates.{AreCandidates}
 use Rattle.gw_board.specs.Results.{carried_on, slots_of}
 use Rattle.gw_board.specs.BoardEntries.{place_of}
@@ -42,11 +42,11 @@ pub record IsKeptIn (tables : Stored) (b : Seen) : Type 0 where
   pub out : (k : Key) → is_out tables k ≡ (has (out b.places) k && names_entry k)
   pub ready : Each (λ o. AreReady o.keys tables) b.undo_log
 
--- Where each prepared key had an entry at the start, each that is prepared now has one, but for keys of the journal and
+-- Where each prepared key had an entry at the start, each that is prepared now has one, but for keys of the undo log and
 -- of open jobs.
 abbrev pub NoneIsSpare : (start tables : Stored) → List UndoStep → List Place → Type 0
 NoneIsSpare start tables undo_log places =
-    AreSwept start → (k : Key) → in_journal undo_log k ≡ false → has (out places) k ≡ false → is_ready tables k ≡ true → has_entry (maps_of tables) k ≡ true
+    AreSwept start → (k : Key) → is_logged undo_log k ≡ false → has (out places) k ≡ false → is_ready tables k ≡ true → has_entry (maps_of tables) k ≡ true
 
 -- there is room for an undo step of each place that is not closed, and were it of each place, and for a reply of each
 -- place

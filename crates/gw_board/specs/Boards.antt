@@ -9,7 +9,7 @@ use Rattle.gw_table.specs.Parts.{restricted}
 use Rattle.gw_table.specs.Stored.{Stored, maps_of}
 use Rattle.gw_board.specs.Carried.{BurstRequest, keys_of, done, carried}
 use Rattle.gw_board.specs.Core.{Standing, Pending, Opened, Closed, Place, Job, Core, pending, open_with, meets_at, meets_any, MayOpen, after_open, after_close, after_return}
-use Rattle.gw_board.specs.Journal.{UndoStep, Placed}
+use Rattle.gw_board.specs.UndoLog.{UndoStep, Placed}
 use Rattle.gw_board.specs.Results.{result_of}
 use Rattle.gw_board.specs.Waves.{is_pending}
 
@@ -100,7 +100,7 @@ pub record IsFirstMet (b : Seen) (i j : ℕ) : Type 0 where
 abbrev pub undo_step_in : Handed → UndoStep
 undo_step_in h = record { keys = h.keys; way = Placed h.part }
 
--- with its result: the reply stands at the place, and its undo step is the journal's last
+-- with its result: the reply stands at the place, and its undo step is the last of the undo log
 abbrev pub with_result : Seen → Handed → Seen
 with_result b h = record b {
   maps = (after_close (core_of b) h.place h.requested (job_of h) (outcome_of h)).maps;

@@ -8,7 +8,6 @@ pub mod Endings
 pub mod Fitting
 pub mod GoingOn
 pub mod Jobs
-pub mod Journal
 pub mod Limits
 pub mod Links
 pub mod Met
@@ -20,5 +19,6 @@ pub mod Results
 pub mod BoardEntries
 pub mod Stood
 pub mod Texts
+pub mod UndoLog
 pub mod Waiting
 pub mod Waves

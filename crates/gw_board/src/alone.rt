@@ -14,9 +14,9 @@ ghost use Rattle.gw_board.specs.BoardEntries.{standing_of, place_of};
 use crate::board::Board;
 use crate::board_entry::{BoardEntry, Stage, all_pending, set_stage};
 use crate::job::carry_on;
-use crate::journal::put_all_back;
 use crate::profile::Profile;
 use crate::requested::Task;
+use crate::undo_log::put_all_back;
 use crate::undo_step::UndoStep;
 use gw_base::{Items, NoMemory};
 use gw_draw::{Gate, OpenGate};
@@ -99,9 +99,9 @@ impl Board<'_, '_, '_> {
         None
     }
 
-    /// Executes what is pending of a range of places, one after another, on one draft of the tables where they lie, whose
-    /// undo log goes to the journal. The caller knows that nothing is open, that all earlier places are closed, and that
-    /// the first of these is pending.
+    /// Executes what is pending of a range of places, one after another, on one draft of the tables where they lie,
+    /// whose undo log is one step of the board's. The caller knows that nothing is open, that all earlier places are
+    /// closed, and that the first of these is pending.
     ///
     /// # Errors
     ///
@@ -148,7 +148,7 @@ impl Board<'_, '_, '_> {
 
     /// Executes the first place that is not closed, on the tables where they lie, and closes it with its reply: what
     /// opening the place, executing its job and closing it with the result come to. No footprint is gathered, and no
-    /// entry is taken out: what stood where the commands write goes to the journal, once for each key. So the work is
+    /// entry is taken out: what stood where the commands write goes to the undo log, once for each key. So the work is
     /// that of the commands. The caller knows that nothing is open, that all earlier places are closed, and that this
     /// one is pending.
     ///

@@ -29,7 +29,7 @@ pub struct Board<'b, 'h, 'a> {
     pub(crate) profile: Profile,
     pub(crate) board_entries: Vec<BoardEntry<'b, 'h, 'a>>,
     pub(crate) candidates: Candidates,
-    /// Keys may be prepared that are neither those of the journal nor of open jobs.
+    /// Keys may be prepared that are neither those of the undo log nor of open jobs.
     pub(crate) sweeps_all: bool,
     pub(crate) undo_log: Vec<UndoStep>,
     pub(crate) replies: Vec<Items<u8>>,

@@ -11,13 +11,13 @@ ghost use Rattle.gw_board.specs.Results.{NothingIsOpen};
 use crate::board::Board;
 use crate::board_entry::{BoardEntry, Stage, set_stage};
 use crate::job::{Done, Job};
-use crate::journal::put_all_back;
+use crate::undo_log::put_all_back;
 use crate::undo_step::UndoStep;
 use gw_base::Items;
 use gw_table::{Part, Tables};
 
-/// Ends the preparation of keys that have no entry: of those of the journal, or of all.
-fn sweep_journal(tables: &mut Tables, undo_log: &[UndoStep], all: bool)
+/// Ends the preparation of keys that have no entry: of those of the undo log, or of all.
+fn sweep_logged(tables: &mut Tables, undo_log: &[UndoStep], all: bool)
     requires { NoneIsOut tables.old }
     ensures maps { maps_of tables.new ≡ maps_of tables.old }
     ensures here { NoneIsOut tables.new }
@@ -36,7 +36,7 @@ fn sweep_journal(tables: &mut Tables, undo_log: &[UndoStep], all: bool)
 
 impl<'b, 'h, 'a> Board<'b, 'h, 'a> {
     /// The job's new entries go into the tables, and its reply stands at its place. The part that it had goes to the
-    /// journal.
+    /// undo log.
     fn close_with(&mut self, job: Job<'_, '_, '_>, part: Part, reply: Items<u8>)
         requires open { HasOpen self.old job }
         requires part { part ≡ new_part job }
@@ -74,7 +74,7 @@ impl<'b, 'h, 'a> Board<'b, 'h, 'a> {
     }
 
     /// Closes a job. With its result, its new entries go into the tables, its reply stands at its place, and the part
-    /// that it had goes to the board's journal; unchanged, its entries go back and its place is pending again. The
+    /// that it had goes to the undo log; unchanged, its entries go back and its place is pending again. The
     /// caller knows that this board has the job open. The work is a look-up for each of its keys.
     pub fn close(&mut self, done: Done<'_, '_, '_>)
         requires { HasOpen self.old done.job }
@@ -88,9 +88,9 @@ impl<'b, 'h, 'a> Board<'b, 'h, 'a> {
         }
     }
 
-    /// The tables as they were when the board was made: the undo steps of the journal go back, the last one first. The
+    /// The tables as they were when the board was made: its undo steps go back, the last one first. The
     /// caller knows that nothing is open. No key without an entry stays prepared. The work is a look-up for each key
-    /// of the journal, and one pass over all rows.
+    /// of the undo log, and one pass over all rows.
     pub fn undo(self) -> Tables
         requires { NothingIsOpen (core_of self) }
         ensures maps { maps_of result ≡ (maps_of self.entry.start) }
@@ -114,7 +114,7 @@ impl<'b, 'h, 'a> Board<'b, 'h, 'a> {
     /// The tables, and the texts of the replies in the order of the places: what executing the requests one after
     /// another gives, on the tables that the board was made with. The caller knows that every place is closed with a
     /// reply. Where each prepared key had an entry then, each has one now: the work is a look-up for each key of the
-    /// journal, or one pass over all rows, where places that were executed alone wrote many keys, or where a job was
+    /// undo log, or one pass over all rows, where places that were executed alone wrote many keys, or where a job was
     /// closed unchanged.
     pub fn finish(self) -> (Tables, Vec<Items<u8>>)
         requires { AllClosed self.places }
@@ -140,7 +140,7 @@ impl<'b, 'h, 'a> Board<'b, 'h, 'a> {
             };
             replies.push_reserved(reply);
         }
-        sweep_journal(&mut tables, &undo_log, sweeps_all);
+        sweep_logged(&mut tables, &undo_log, sweeps_all);
         (tables, replies)
     }
 }

@@ -12,7 +12,7 @@ ghost use Rattle.gw_board.specs.Carried.{BurstRequest, keys_of, carried};
 ghost use Rattle.gw_board.specs.Core.{Core, Job, Event, Events, MayDraw, start, pending, undrawn_at};
 ghost use Rattle.gw_board.specs.Endings.{all_ended};
 ghost use Rattle.gw_board.specs.Fitting.{FitsTogether};
-ghost use Rattle.gw_board.specs.Journal.{journal, undone};
+ghost use Rattle.gw_board.specs.UndoLog.{undo_log_of, undone};
 ghost use Rattle.gw_board.specs.Met.{IsRefused};
 ghost use Rattle.gw_board.specs.Planned.{IsPlan, MayOpenEach, MayOpenInTurn, MayOpenWith};
 ghost use Rattle.gw_board.specs.declared.planned.Planned.{Planned};
@@ -63,7 +63,7 @@ pub fn waves_may_be_opened()
 /// Whatever was opened, drawn and closed: once nothing is open, the undo steps of the closed jobs, put over the maps
 /// with the last one first, give the maps of the start.
 pub fn undo_logs_give_the_tables_back()
-    ensures { (profile : Profile) (workers : ℕ) (requested : List BurstRequest) (m : Maps) (s : Core) → AreWellFormed profile.rules.members m → AreUnused m [] (slots_of requested) → (events : Events profile (start workers requested m) s) → NothingIsOpen s → undone (journal events) s.maps ≡ m }
+    ensures { (profile : Profile) (workers : ℕ) (requested : List BurstRequest) (m : Maps) (s : Core) → AreWellFormed profile.rules.members m → AreUnused m [] (slots_of requested) → (events : Events profile (start workers requested m) s) → NothingIsOpen s → undone (undo_log_of events) s.maps ≡ m }
 {}
 
 /// While nothing is open on a board, the places of its wave may be opened one after another: so they still may after

@@ -1,7 +1,7 @@
 //! What stood in the tables before a place was closed with its result.
 
 ghost use Rattle.std.specs.Prelude.{◌≡◌};
-ghost use Rattle.gw_board.specs.Journal.{led};
+ghost use Rattle.gw_board.specs.UndoLog.{led};
 ghost use Rattle.gw_board.specs.BoardEntries.{undo_step_of_part, undo_step_of_writes};
 ghost use Rattle.gw_table.specs.Stored.{maps_of, AreReady, AreIn, AreAsReady, AreAsOut, AreSweptAmong, KeepReady, NoneIsOut};
 
@@ -26,7 +26,7 @@ pub(crate) struct UndoStep {
 impl Model for UndoStep {
     ghost use Rattle.std.specs.Coded.{codes};
     ghost use Rattle.gw_table.specs.Maps.{coded_maps};
-    ghost use Rattle.gw_board.specs.Journal.{UndoStep as Way};
+    ghost use Rattle.gw_board.specs.UndoLog.{UndoStep as Way};
     ghost use Rattle.gw_board.specs.Stood.{stood_undo_step};
 
     ghost Value = { Way };

@@ -13,12 +13,12 @@ use Rattle.gw_board.specs.Candidates.{AreCandidates, AreCandidatesBut}
 use Rattle.gw_board.specs.declared.board_entry.BoardEntry.{BoardEntry}
 use Rattle.gw_board.specs.Fitting.{Each}
 use Rattle.gw_board.specs.GoingOn.{MayGoOn}
-use Rattle.gw_board.specs.Journal.{UndoStep, undone}
+use Rattle.gw_board.specs.UndoLog.{UndoStep, undone}
 use Rattle.gw_board.specs.OpenJobs.{IsSameBurst}
 use Rattle.gw_board.specs.Results.{NothingIsOpen}
 use Rattle.gw_board.specs.BoardEntries.{place_of, undo_step_of_writes}
 use Rattle.gw_board.proofs.Comes.{out_of_none}
-use Rattle.gw_board.proofs.GoingOn.{begun_at, fewer_behind, first_left, left_behind, led_behind, led_from, none_pending, with_journal}
+use Rattle.gw_board.proofs.GoingOn.{begun_at, fewer_behind, first_left, left_behind, led_behind, led_from, none_pending, with_undo_log}
 use Rattle.gw_board.proofs.Joining.{candidates_beside}
 use Rattle.gw_board.proofs.KeptIn.{all_ready, begun_kept, none_out}
 use Rattle.gw_board.proofs.OnTheWay.{requested-pending, begun_way, gives_the_fold}
@@ -183,7 +183,7 @@ module _ (g : Over) (c : After-push_reserved g) where
   is_new = λ j. record { profile = b.profile; start = b.start; maps = maps_are j; places = places; undo_log = undo_log_is j }
 
   new_way : IsOnTheWay new
-  new_way = subst IsOnTheWay (sym is_new) (with_journal b.profile b.start maps places went (b.undo_log ++ last ∷ []) (led_behind b.undo_log last maps b.maps (maps_of b.start) (ap (taken found) (sym maps_are) ∙ leads_back) (led_from b way none)))
+  new_way = subst IsOnTheWay (sym is_new) (with_undo_log b.profile b.start maps places went (b.undo_log ++ last ∷ []) (led_behind b.undo_log last maps b.maps (maps_of b.start) (ap (taken found) (sym maps_are) ∙ leads_back) (led_from b way none)))
 
   still_ready : Each (λ o. AreReady o.keys tables) b.undo_log
   still_ready = all_ready b.undo_log c.self.inside.tables tables (subst (λ (s : Stored). KeepReady s tables) begun c.into_tables-tables.ensures.kept) c.self.invariant.kept.ready

@@ -7,7 +7,7 @@ use Rattle.gw_board.proofs.Joining.{candidates_yet}
 use Rattle.gw_board.specs.BoardView.{value_of, IsOnTheWay, IsKeptIn, NoneIsSpare}
 use Rattle.gw_board.specs.Boards.{Seen, Handed, HasOpen, job_of, undo_step_in, outcome_of, with_result, unclosed}
 use Rattle.gw_board.specs.Core.{Place, Closed, open_with}
-use Rattle.gw_board.specs.Journal.{UndoStep}
+use Rattle.gw_board.specs.UndoLog.{UndoStep}
 use Rattle.gw_board.specs.BoardEntries.{place_of}
 use Rattle.gw_board.proofs.Ends.{fewer_unclosed}
 use Rattle.gw_board.proofs.KeptIn.{open_out, result_kept_in}

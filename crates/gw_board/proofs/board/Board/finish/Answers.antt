@@ -6,7 +6,7 @@ use Rattle.gw_board.specs.BoardView.{value_of}
 use Rattle.gw_board.specs.Boards.{Seen, core_of, requested_in, AllClosed}
 use Rattle.gw_board.specs.Carried.{carried}
 use Rattle.gw_board.specs.Fitting.{Each}
-use Rattle.gw_board.specs.Journal.{UndoStep}
+use Rattle.gw_board.specs.UndoLog.{UndoStep}
 use Rattle.gw_board.specs.Results.{AreClosed}
 use Rattle.gw_board.specs.BoardEntries.{place_of}
 use Rattle.gw_board.specs.declared.board_entry.BoardEntry.{BoardEntry}
@@ -67,8 +67,8 @@ push_reserved-requires c =
 closed_now : (board_entries first rest : List BoardEntry) (replies : List Text) → first ≡ board_entries → told_as replies rest ≡ told_as [] first → rest ≡ [] → AreClosed (map place_of board_entries) replies
 closed_now board_entries first rest replies e limited_text none = ap (λ (l : List BoardEntry). told_as [] l) (sym e) ∙ sym limited_text ∙ ap (told_as replies) none ∙ told_all replies
 
-pub sweep_journal-requires : goal.sweep_journal-requires
-sweep_journal-requires c =
+pub sweep_logged-requires : goal.sweep_logged-requires
+sweep_logged-requires c =
     let b : Seen = value_of c.self.inside in
     let replies : List Text = c.loop-board_entry.replies.items in
     let rest : List BoardEntry = c.loop-board_entry.board_entry-iterator.rest.items in
@@ -98,15 +98,15 @@ module _ (c : After-drop-self-inside-4) where
   comes_to = sym (all_closed b.profile (core_of b) replies are_closed) ∙ gives_the_fold b c.self.invariant.on_the_way
 
 pub returns-clause-maps : goal.returns-clause-maps
-returns-clause-maps c = c.sweep_journal.ensures.maps ∙ ap (λ (o : Outcome (List Text)). o.maps) (comes_to c) ∙ ap (λ (x : Seen). (carried x.profile (requested_in x.places) (maps_of x.start)).maps) c.self.view_is
+returns-clause-maps c = c.sweep_logged.ensures.maps ∙ ap (λ (o : Outcome (List Text)). o.maps) (comes_to c) ∙ ap (λ (x : Seen). (carried x.profile (requested_in x.places) (maps_of x.start)).maps) c.self.view_is
 
 pub returns-clause-replies : goal.returns-clause-replies
 returns-clause-replies c = ap (λ (o : Outcome (List Text)). o.answer) (comes_to c) ∙ ap (λ (x : Seen). (carried x.profile (requested_in x.places) (maps_of x.start)).answer) c.self.view_is
 
 pub returns-clause-swept : goal.returns-clause-swept
 returns-clause-swept c = λ start.
-    let journal : c.deref.result.now ≡ (b c).undo_log = c.deref.ensures.value in
-    finished (b c).start c.self.inside.tables c.sweep_journal.new.tables (b c).undo_log (b c).places c.self.inside.sweeps_all c.sweep_journal.ensures.maps
-    (out_of_none (b c).places (closed_ones (b c).places (replies c) (are_closed c))) c.sweep_journal.ensures.fewer c.sweep_journal.ensures.all
-    (subst (λ (l : List UndoStep). Each (λ o. AreSweptAmong o.keys c.sweep_journal.new.tables) l) journal c.sweep_journal.ensures.swept) c.self.invariant.spare
+    let logged : c.deref.result.now ≡ (b c).undo_log = c.deref.ensures.value in
+    finished (b c).start c.self.inside.tables c.sweep_logged.new.tables (b c).undo_log (b c).places c.self.inside.sweeps_all c.sweep_logged.ensures.maps
+    (out_of_none (b c).places (closed_ones (b c).places (replies c) (are_closed c))) c.sweep_logged.ensures.fewer c.sweep_logged.ensures.all
+    (subst (λ (l : List UndoStep). Each (λ o. AreSweptAmong o.keys c.sweep_logged.new.tables) l) logged c.sweep_logged.ensures.swept) c.self.invariant.spare
     (subst (λ (x : Seen). AreSwept x.start) (sym c.self.view_is) start)

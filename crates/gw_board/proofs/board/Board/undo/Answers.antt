@@ -3,7 +3,7 @@ use Rattle.gw_table.specs.Stored.{maps_of}
 use Rattle.gw_board.specs.BoardView.{value_of}
 use Rattle.gw_board.specs.Boards.{Seen, core_of}
 use Rattle.gw_board.specs.Fitting.{out}
-use Rattle.gw_board.specs.Journal.{undone}
+use Rattle.gw_board.specs.UndoLog.{undone}
 use Rattle.gw_board.specs.Results.{NothingIsOpen}
 use Rattle.gw_board.proofs.Comes.{out_of_none}
 use Rattle.gw_board.proofs.KeptIn.{none_out}

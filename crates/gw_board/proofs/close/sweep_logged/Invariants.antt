@@ -1,7 +1,7 @@
 use Rattle.std.proofs.Common.{◌≡◌, take}
 use Rattle.gw_table.specs.Stored.{maps_of, AreSweptAmong, KeepReady, NoneIsOut}
 use Rattle.gw_board.specs.Fitting.{Each}
-use Rattle.gw_board.proofs.close.sweep_journal.Given as goal
+use Rattle.gw_board.proofs.close.sweep_logged.Given as goal
 
 -- no entry went, and none is out; the keys of the originals so far are swept, and no key became prepared
 abbrev pub invariant-loop-undo_step : goal.invariant-loop-undo_step

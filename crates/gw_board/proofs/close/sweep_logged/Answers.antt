@@ -2,11 +2,11 @@ use Rattle.std.proofs.Common.{ℕ, List, [], ◌∷◌, ◌++◌, take, sym, ap,
 use Rattle.std.proofs.lemmas.List.{take_more}
 use Rattle.gw_table.specs.Stored.{AreSweptAmong}
 use Rattle.gw_board.specs.Fitting.{Each}
-use Rattle.gw_board.specs.Journal.{UndoStep}
+use Rattle.gw_board.specs.UndoLog.{UndoStep}
 use Rattle.gw_board.proofs.Orders.{each_joined}
 use Rattle.gw_table.proofs.Swept.{fewer_entries}
 use Rattle.gw_board.proofs.Spare.{all_swept, swept_on}
-use Rattle.gw_board.proofs.close.sweep_journal.Goals as goal
+use Rattle.gw_board.proofs.close.sweep_logged.Goals as goal
 
 pub returns-then-all-clause-swept : goal.returns-then-all-clause-swept
 returns-then-all-clause-swept c = all_swept c.args.undo_log.now c.sweep.new.self c.sweep.ensures.ready

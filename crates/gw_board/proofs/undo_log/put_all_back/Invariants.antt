@@ -2,8 +2,8 @@ use Rattle.std.proofs.Common.{◌≡◌, vec_len}
 use Rattle.std.specs.Prelude.{vec_capacity}
 use Rattle.gw_table.specs.Stored.{maps_of, NoneIsOut, AreReady}
 use Rattle.gw_board.specs.Fitting.{Each}
-use Rattle.gw_board.specs.Journal.{undone}
-use Rattle.gw_board.proofs.journal.put_all_back.Given as goal
+use Rattle.gw_board.specs.UndoLog.{undone}
+use Rattle.gw_board.proofs.undo_log.put_all_back.Given as goal
 
 -- the originals that are left lead back to where all of them did
 abbrev pub invariant-loop-undo_step : goal.invariant-loop-undo_step

@@ -30,8 +30,8 @@ abbrev pub led : UndoStep → Maps → Maps
 led o m = led_by o.way o.keys m
 
 -- it is a key of one of the undo steps
-abbrev pub in_journal : List UndoStep → Key → Bool
-in_journal undo_log k = list_any (λ o. has o.keys k) undo_log
+abbrev pub is_logged : List UndoStep → Key → Bool
+is_logged undo_log k = list_any (λ o. has o.keys k) undo_log
 
 abbrev pub undo_step_of : {profile : Profile} {s t : Core} → Event profile s t → List UndoStep
 undo_step_of (Open i a keys may is) = []
@@ -40,9 +40,9 @@ undo_step_of (Close i a j result may is) = record { keys = j.keys; way = Placed 
 undo_step_of (Return i a j may is) = []
 
 -- in the order of closing
-abbrev pub journal : {profile : Profile} {s t : Core} → Events profile s t → List UndoStep
-journal none = []
-journal (more event later) = undo_step_of event ++ journal later
+abbrev pub undo_log_of : {profile : Profile} {s t : Core} → Events profile s t → List UndoStep
+undo_log_of none = []
+undo_log_of (more event later) = undo_step_of event ++ undo_log_of later
 
 -- where the undo steps lead back to, the last one first
 abbrev pub undone : List UndoStep → Maps → Maps

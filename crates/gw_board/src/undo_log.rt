@@ -1,9 +1,9 @@
-//! The journal: the undo steps of the places that are closed with a result, in the order of closing.
+//! The undo log: the undo steps of the places that are closed with a result, in the order of closing.
 
 ghost use Rattle.std.specs.Prelude.{◌≡◌, [], vec_capacity};
 ghost use Rattle.gw_table.specs.Stored.{maps_of, AreReady, AreSwept, NoneIsOut};
 ghost use Rattle.gw_board.specs.Fitting.{Each};
-ghost use Rattle.gw_board.specs.Journal.{undone};
+ghost use Rattle.gw_board.specs.UndoLog.{undone};
 
 use crate::undo_step::UndoStep;
 use gw_table::Tables;

@@ -2,11 +2,11 @@ use Rattle.std.proofs.Common.{◌≡◌, List, [], ◌∷◌, ◌++◌, sym, ap,
 use Rattle.gw_table.specs.Maps.{Maps}
 use Rattle.gw_table.specs.Stored.{maps_of, AreReady}
 use Rattle.gw_board.specs.Fitting.{Each}
-use Rattle.gw_board.specs.Journal.{UndoStep, undone}
+use Rattle.gw_board.specs.UndoLog.{UndoStep, undone}
 use Rattle.gw_board.proofs.KeptIn.{all_ready}
 use Rattle.gw_board.proofs.Orders.{each_front, each_behind}
 use Rattle.gw_board.proofs.Steps.{undone-append}
-use Rattle.gw_board.proofs.journal.put_all_back.Goals as goal
+use Rattle.gw_board.proofs.undo_log.put_all_back.Goals as goal
 
 pub put_back-requires-clause-ready : goal.put_back-requires-clause-ready
 put_back-requires-clause-ready c =
