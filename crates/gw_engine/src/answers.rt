@@ -1,13 +1,13 @@
 //! The answers of a burst.
 
-ghost use Rattle.std.specs.Prelude.{◌≡◌, ◌<◌, ◌^◌, ◌++◌, IfOk, OnOk, length, map};
+ghost use Rattle.std.specs.Prelude.{◌≡◌, ◌<◌, ◌^◌, IfOk, length, map};
 ghost use Rattle.std.specs.Option.{option_to_list};
 ghost use Rattle.gw_board.specs.Boards.{AllClosed};
 ghost use Rattle.gw_engine.specs.Phases.{reply_from, text_for, answer_for, answers_of};
 ghost use Rattle.gw_engine.specs.Replies.{board_texts};
 
 use crate::datagram::Datagram;
-use crate::drawn::{MOST_DRAWN, present_in};
+use crate::drawn::{MOST_DRAWN, present_in, push_present};
 use crate::items::{BurstItem, Content};
 use crate::octets::Octets;
 use crate::workers::Workers;
@@ -106,23 +106,6 @@ fn answer_to(
     }
 }
 
-/// The answer to an item goes last, if it has one.
-fn push_answer(
-    answers: &mut Items<Datagram>,
-    alloc: Global,
-    mid: &Mid,
-    kept: &Kept,
-    replies: &[&[u8]],
-    item: &BurstItem<'_, '_>,
-) -> Result<(), NoMemory>
-    ensures { OnOk result (answers.new ≡ answers.old ++ answer_for item.now.peer (text_for mid.now kept.now (map (λ r. r.now) replies.now) item.now)) }
-{
-    if let Some(answer) = answer_to(alloc, mid, kept, replies, item)? {
-        answers.push(answer)?;
-    }
-    Ok(())
-}
-
 /// The answers, one after another.
 fn in_turn(
     alloc: Global,
@@ -135,7 +118,7 @@ fn in_turn(
 {
     let mut answers = Items::from(Vec::with_capacity(alloc, items.len())?);
     for item in items {
-        push_answer(&mut answers, alloc, mid, kept, replies, item)?;
+        push_present(&mut answers, answer_to(alloc, mid, kept, replies, item)?)?;
     }
     Ok(answers)
 }

@@ -12,7 +12,10 @@ use std::alloc::Global;
 pub(crate) const MOST_DRAWN: usize = 4_294_967_295;
 
 /// An answer goes last, if there is one.
-fn push_present<X: Drop>(present: &mut Items<X>, answer: Option<X>) -> Result<(), NoMemory>
+pub(crate) fn push_present<X: Drop>(
+    present: &mut Items<X>,
+    answer: Option<X>,
+) -> Result<(), NoMemory>
     ensures { OnOk result (present.new ≡ present.old ++ option_to_list answer) }
 {
     if let Some(answer) = answer {
