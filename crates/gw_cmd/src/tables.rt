@@ -40,8 +40,7 @@ fn missing(
 }
 
 /// Why a command is refused whose form is allowed: the first of `UnknownContext` (the action's context has ended), what
-/// is missing, and what is wrong with its descriptors. The caller says whether the command is for any termination,
-/// and where the one that it names may stand.
+/// is missing, and what is wrong with its descriptors. The caller says whether the command is for any termination.
 #[tactic(auto, unfolding(crate::specs::Refusals::refusal_by_tables))]
 pub(crate) fn refusal_by_tables(
     draft: &Draft,
