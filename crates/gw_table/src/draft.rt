@@ -1,7 +1,6 @@
 //! What commands work on: whole tables or a part, in place.
 
 ghost use Rattle.std.specs.Prelude.{◌≡◌, ◌<◌, None, true, false, length, IfOk, OnOk, OnErr, option_copied};
-ghost use Rattle.std.specs.Option.{option_map};
 ghost use Rattle.gw_base.specs.declared.key.Key.{Key};
 ghost use Rattle.gw_base.specs.declared.key.Key.TheVariants.{Term, Ctx};
 ghost use Rattle.gw_base.specs.NameLists.{is_in};

@@ -1,7 +1,6 @@
 //! The gateway's tables: two ordered maps with a place for each prepared key, which contracts see as finite maps.
 
 ghost use Rattle.std.specs.Prelude.{◌≡◌, Some, IfOk, OnOk, option_copied};
-ghost use Rattle.std.specs.Option.{option_map};
 ghost use Rattle.gw_term.specs.Record.{provisioned};
 ghost use Rattle.gw_table.specs.Maps.{term, ctx, put_term, names, numbers, new_maps};
 ghost use Rattle.gw_table.specs.Provided.{put_missing, AreAmong};
