@@ -107,12 +107,6 @@ shut b i None e h = h
 shut b i (Some None) e h = h
 shut b i (Some (Some g)) e h = absurd cc
 
--- there was none
-pub held_none : (b : Seen) (held : List (Option Handed)) (i : ℕ) → AreHeld b held → job_in (slice_get held i) ≡ None → AreHeld b (slice_set held i None)
-held_none b held i a e =
-    let none : is_open_at (slice_get b.places i) ≡ false = shut b i (slice_get held i) e (a.each i) in
-    moved b b held a i None refl refl (λ j k. refl) none (λ l. none)
-
 -- what was kept there is open
 pub taken_open : (b : Seen) (i : ℕ) (h : Handed) (o : Option (Option Handed)) → job_in o ≡ Some h → IsHeld b i o → (h.place ≡ i) × HasOpen b h
 taken_open b i h None e k = absurd cc

@@ -41,7 +41,10 @@ fn carry_all(alloc: Global, board: &mut Board<'_, '_, '_>) -> Result<(), NoMemor
     ensures same { IsSameBurst board.old board.new }
 {
     while let Some(first) = board.first_unclosed(0) {
-        let wave = board.plan_next(alloc, first)?;
+        let Some(wave) = board.plan_next(alloc, first)? else {
+            board.carry_alone(alloc, first)?;
+            continue;
+        };
         let jobs = board.open_wave(alloc, wave)?;
         let Ok(answers) = answers_to(alloc, &jobs) else {
             board.close_unchanged(jobs);

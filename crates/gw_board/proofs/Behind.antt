@@ -12,9 +12,6 @@ use Rattle.gw_board.specs.Named.{IsNoneOfWave}
 use Rattle.gw_board.specs.Waves.{is_pending, meets_pending, is_free}
 use Rattle.gw_board.proofs.Planning.{and_false, filter_more}
 
-pub not_pending : (m : Maps) (places : List Place) (i : ℕ) (p : Place) → slice_get places i ≡ Some p → is_pending p.standing ≡ false → IsNoneOfWave m places i
-not_pending m places i p e h = ap (is_free m (take i places)) e ∙ ap (λ b. b && not (meets_pending (keys_of p.requested m) m (take i places))) h
-
 found : (k : List Key) (m : Maps) (places : List Place) (i j : ℕ) (q : Place) → slice_get places j ≡ Some q → j < i → (is_pending q.standing && meets (keys_of q.requested m) k) ≡ true → meets_pending k m (take i places) ≡ true
 found k m places zero j q e l h = absurd (omega arith)
 found k m [] (suc i) j q e l h = absurd cc

@@ -1,10 +1,8 @@
 -- Places as they are kept.
 use Rattle.std.proofs.Common.{◌≡◌, ℕ, zero, suc, ◌<◌, ◌≤◌, Bool, true, false, cond, not, List, [], ◌∷◌, ◌++◌, map, length, Some, refl, sym, ap, ◌∙◌, arith, slice_index_or}
 use Rattle.std.specs.Prelude.{slice_get, slice_set}
-use Rattle.std.specs.List.{list_any}
-use Rattle.gw_base.proofs.Booleans.{neither}
 use Rattle.gw_board.specs.Texts.{Text}
-use Rattle.gw_board.specs.Boards.{requested_in, is_closed, is_pending_at, AllClosed, unclosed}
+use Rattle.gw_board.specs.Boards.{requested_in, is_closed, is_pending_at, unclosed}
 use Rattle.gw_board.specs.Carried.{BurstRequest}
 use Rattle.gw_board.specs.Core.{Standing, Closed, Place, pending}
 use Rattle.gw_board.specs.BoardEntries.{standing_of, place_of}
@@ -90,25 +88,9 @@ unclosed-less (q ∷ qs) (suc i) p new e f g = one_less_later (unclosed (slice_s
 
 -- ---- where all are closed
 
-pub closed_front : (s : BoardEntry) (ss : List BoardEntry) → AllClosed (map place_of (s ∷ ss)) → (is_closed (standing_of s.stage) ≡ true) × AllClosed (map place_of ss)
-closed_front s ss h = let both = neither (not (is_closed (standing_of s.stage))) (list_any (λ p. not (is_closed p.standing)) (map place_of ss)) h in (by (is_closed (standing_of s.stage)) both.0, both.1)
-  where
-    by : (b : Bool) → not b ≡ false → b ≡ true
-    by true e = refl
-    by false e = absurd cc
-
-pub closed_reply : (x : Stage) → is_closed (standing_of x) ≡ true → ((r : Text) → x ≡ stage.Closed r → ⊥) → ⊥
-closed_reply stage.Pending h f = cc
-closed_reply (stage.Opened keys part) h f = cc
-closed_reply (stage.Closed r) h f = f r refl
-
 -- replies so far, and the places that are left
 abbrev pub told_as : List Text → List BoardEntry → List Standing
 told_as replies board_entries = map Closed replies ++ map (λ p. p.standing) (map place_of board_entries)
-
-pub told_more : (replies : List Text) (r : Text) (s : BoardEntry) (ss : List BoardEntry) → s.stage ≡ stage.Closed r → told_as (replies ++ r ∷ []) ss ≡ told_as replies (s ∷ ss)
-told_more [] r s ss e = ap (λ (x : Stage). standing_of x ∷ map (λ p. p.standing) (map place_of ss)) (sym e)
-told_more (q ∷ qs) r s ss e = ap (λ (l : List Standing). Closed q ∷ l) (told_more qs r s ss e)
 
 pub told_all : (replies : List Text) → told_as replies [] ≡ map Closed replies
 told_all [] = refl

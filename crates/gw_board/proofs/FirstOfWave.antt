@@ -8,7 +8,7 @@ use Rattle.gw_base.specs.Keys.{has}
 use Rattle.gw_base.proofs.Booleans.{neither}
 use Rattle.gw_table.specs.Maps.{Maps}
 use Rattle.gw_board.specs.Alone.{is_unclosed_at, IsFirstUnclosed, IsWholeTable}
-use Rattle.gw_board.specs.Boards.{Seen, Handed, core_of, is_closed, is_pending_at, AllClosed}
+use Rattle.gw_board.specs.Boards.{Seen, core_of, is_closed, is_pending_at, AllClosed}
 use Rattle.gw_board.specs.Carried.{keys_of}
 use Rattle.gw_board.specs.Core.{Core, Standing, Pending, Opened, Closed, Place}
 use Rattle.gw_board.specs.Named.{IsNoneOfWave}
@@ -122,8 +122,11 @@ wave_for_all b first none is whole =
 pub plan_begins : (b : Seen) (first : ℕ) (planned : List Planned) → NothingIsOpen (core_of b) → IsFirstUnclosed b.places first → IsPlan b planned → slice_get (map (λ (p : Planned). p.place) planned) 0 ≡ Some first
 plan_begins b first planned none is plan = ap (λ (l : List ℕ). slice_get l 0) plan.places ∙ wave_begins b first none is
 
--- so there is a job, where each has the place that was planned
-pub some_job : (jobs : List Handed) (wave : List Planned) (first : ℕ) → map (λ (j : Handed). j.place) jobs ≡ map (λ (p : Planned). p.place) wave
-    → slice_get (map (λ (p : Planned). p.place) wave) 0 ≡ Some first → 1 ≤ length jobs
-some_job (j ∷ js) wave first e begins = omega arith
-some_job [] wave first e begins = absurd (let clash : None ≡ Some first = ap (λ (l : List ℕ). slice_get l 0) e ∙ begins in cc)
+-- a plan of one place is the first alone
+pub plan_alone : (b : Seen) (first : ℕ) (planned : List Planned) → NothingIsOpen (core_of b) → IsFirstUnclosed b.places first → IsPlan b planned → length planned ≡ 1 → wave (core_of b) ≡ first ∷ []
+plan_alone b first planned none is plan one = by planned plan.places one (plan_begins b first planned none is plan)
+  where
+    by : (l : List Planned) → map (λ (p : Planned). p.place) l ≡ wave (core_of b) → length l ≡ 1 → slice_get (map (λ (p : Planned). p.place) l) 0 ≡ Some first → wave (core_of b) ≡ first ∷ []
+    by [] e one begins = absurd cc
+    by (p ∷ []) e one begins = let same : p.place ≡ first = cc in sym e ∙ ap (λ (i : ℕ). i ∷ []) same
+    by (p ∷ q ∷ l) e one begins = absurd cc

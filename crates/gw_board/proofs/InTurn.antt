@@ -103,8 +103,3 @@ with_keys start (i ∷ later) s b (p ∷ ps) e r m q g =
 
 pub planned_in_turn : (b : Seen) (planned : List Planned) → NothingIsOpen (core_of b) → IsPlan b planned → MayOpenInTurn b planned
 planned_in_turn b planned h p = with_keys b (wave (core_of b)) (core_of b) b planned p.places p.keys refl refl (wave_in_turn (core_of b) h)
-
-pub next_in_turn : (b c : Seen) (p : Planned) (later : List Planned) (h : Handed) → MayOpenInTurn b (p ∷ later) → Opens b p.place h c → h.keys ≡ p.keys → MayOpenInTurn c later
-next_in_turn b c p later h each o e =
-    let same : h.requested ≡ each.0.requested = same_asked b p.place h.requested each.0.requested o.may.pends each.0.may.pends in
-    subst (λ (x : Seen). MayOpenInTurn x later) ((λ j. with_open b p.place (sym same j) (sym e j)) ∙ sym o.board) each.1

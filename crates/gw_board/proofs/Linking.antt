@@ -55,9 +55,6 @@ on_some P Q (Some x) f h = f x h
 pub none_named : (requested : List BurstRequest) (last : LastNamed) → ((k : Key) → last_named last k ≡ None) → AreLastNamed requested 0 last
 none_named requested last h k = subst (λ o. IfSome o (NamesBefore requested 0 k)) (sym (h k)) tt
 
-pub named_up_to : (requested : List BurstRequest) (n : ℕ) (last : LastNamed) → AreLastNamed requested n last → AreLastNamed requested (n + 1) last
-named_up_to requested n last h k = on_some (NamesBefore requested n k) (NamesBefore requested (n + 1) k) (last_named last k) (λ p x. let b = x.before in record { before = omega arith; named = x.named }) (h k)
-
 -- a key more, which the place names
 pub named_more : (requested : List BurstRequest) (i : ℕ) (b : BurstRequest) (key : Key) (old new : LastNamed) → slice_get requested i ≡ Some b → does_name b key ≡ true → AreLastNamed requested (i + 1) old
     → ((k : Key) → (last_named new k ≡ last_named old k) ⊎ ((k ≡ key) × (last_named new k ≡ Some i))) → AreLastNamed requested (i + 1) new

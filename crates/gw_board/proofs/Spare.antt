@@ -48,10 +48,6 @@ among (o ∷ os) t each k h = by (has o.keys k) refl h (among os t each.1 k)
     by true e g later = each.0 k e
     by false e g later = later g
 
-pub all_swept : (undo_log : List UndoStep) (t : Stored) → AreSwept t → Each (λ o. AreSweptAmong o.keys t) undo_log
-all_swept [] t h = tt
-all_swept (o ∷ os) t h = ((λ k e. h k), all_swept os t h)
-
 pub swept_on : (undo_log : List UndoStep) (s t : Stored) → maps_of t ≡ maps_of s → KeepReady t s → Each (λ o. AreSweptAmong o.keys s) undo_log → Each (λ o. AreSweptAmong o.keys t) undo_log
 swept_on undo_log s t same fewer h = each_map {P = λ o. AreSweptAmong o.keys s} {Q = λ o. AreSweptAmong o.keys t} (λ o g. still_swept o.keys s t same fewer g) undo_log h
 

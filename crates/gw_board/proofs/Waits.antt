@@ -125,9 +125,6 @@ any_aside w any (Term q) = refl
 any_aside w any (Ctx n) = refl
 any_aside w any Whole = refl
 
-pub any_of_aside : (w : Waiting) (any : Bool) (keys : List Key) → list_any (is_waiting (record { terms = w.terms; contexts = w.contexts; is_any = any; is_whole = w.is_whole })) keys ≡ list_any (is_waiting w) keys
-any_of_aside w any keys = λ i. list_any (λ k. any_aside w any k i) keys
-
 -- ---- one place more
 
 any_either : (f g h : Key → Bool) → ((k : Key) → f k ≡ (g k || h k)) → (keys : List Key) → list_any f keys ≡ (list_any g keys || list_any h keys)

@@ -34,6 +34,12 @@ pub record IsPlan (b : Seen) (planned : List Planned) : Type 0 where
   pub places : map (λ p. p.place) planned ≡ wave (core_of b)
   pub keys : Each (IsReckoned b) planned
 
+-- the next wave, which begins with the first place that is not closed
+pub record IsNextWave (b : Seen) (first : ℕ) (planned : List Planned) : Type 0 where
+  pub plan : IsPlan b planned
+  pub in_turn : MayOpenInTurn b planned
+  pub begins : slice_get (map (λ p. p.place) planned) 0 ≡ Some first
+
 -- the place, where its keys were found
 abbrev pub planned_with : ℕ → Option (List Key) → List Planned
 planned_with i None = []

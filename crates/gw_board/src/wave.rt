@@ -1,11 +1,11 @@
 //! The waves of a burst: the jobs of one are opened together, and closed together.
 
-ghost use Rattle.std.specs.Prelude.{◌≡◌, ◌+◌, [], ◌∷◌, false, IsTrue, length, map, is_ok, IfOk, IsOk, IsSomeAnd, Some, Ok, OnErr, OnOk, slice_get};
+ghost use Rattle.std.specs.Prelude.{◌≡◌, ◌+◌, [], ◌∷◌, true, false, IsTrue, length, map, is_none, is_ok, IfOk, IfSome, IsOk, IsSomeAnd, Ok, Some, OnErr, OnOk, slice_get};
 ghost use Rattle.std.specs.List.{list_all};
 ghost use Rattle.gw_board.specs.Alone.{IsFirstUnclosed, IsWholeTable};
 ghost use Rattle.gw_board.specs.Boards.{core_of, unchanged, unclosed, with_result};
 ghost use Rattle.gw_board.specs.OpenJobs.{after_each, AreOpen, AreAnswers, IsSameBurst};
-ghost use Rattle.gw_board.specs.Planned.{IsPlan, MayOpenInTurn};
+ghost use Rattle.gw_board.specs.Planned.{IsNextWave, MayOpenInTurn};
 ghost use Rattle.gw_board.specs.Results.{NothingIsOpen};
 ghost use Rattle.gw_board.specs.Waves.{wave};
 
@@ -61,55 +61,45 @@ impl<'b, 'h, 'a> Board<'b, 'h, 'a> {
         }
     }
 
-    /// Whether each place behind the first has a link to a pending one.
-    fn do_others_wait(&mut self, alloc: Global, first: usize) -> Result<bool, NoMemory>
-        requires none { NothingIsOpen (core_of self.old) }
-        requires first { IsFirstUnclosed self.old.places first }
-        ensures alone { IfOk result (λ wait. IsTrue wait → wave (core_of self.old) ≡ first ∷ []) }
-        ensures stays { self.new ≡ self.old }
+    /// Whether the next wave is seen to be its first place alone: this one is whole-table or the last place, or each
+    /// other one has a link to a pending one. The tables are not looked at.
+    fn is_seen_alone(&self, first: usize) -> bool
+        requires none { NothingIsOpen (core_of self.now) }
+        requires first { IsFirstUnclosed self.now.places first }
+        ensures { IsTrue result → wave (core_of self.now) ≡ first ∷ [] }
     {
-        self.link(alloc, first)?;
-        Ok(self.candidates.end(&self.board_entries) <= first + 1)
+        self.is_for_all(first) || self.candidates.end(&self.board_entries) <= first + 1
     }
 
-    /// Whether the next wave is its first place alone, as far as the requests show: it is whole-table or the last place,
-    /// or each other one has a link to a pending one. The tables are not looked at. The caller knows that nothing is
-    /// open, and which place is the first that is not closed. What the requests name by themselves is gathered before.
+    /// The next wave, as of `plan`, each place with its keys, or none where it is its first place alone, which
+    /// `carry_alone` executes. Places that wait for earlier ones by name are not looked at in the tables. The caller
+    /// knows that nothing is open, and which place is the first that is not closed: the wave begins with it. What the
+    /// requests name by themselves is gathered before the first wave. A place that waits so takes a step or two, and a
+    /// closed one before the first takes none.
     ///
     /// # Errors
     ///
     /// Out of memory.
-    pub fn is_wave_alone(&mut self, alloc: Global, first: usize) -> Result<bool, NoMemory>
+    pub fn plan_next(
+        &mut self,
+        alloc: Global,
+        first: usize,
+    ) -> Result<Option<Vec<Planned>>, NoMemory>
         requires none { NothingIsOpen (core_of self.old) }
         requires first { IsFirstUnclosed self.old.places first }
-        ensures alone { IfOk result (λ alone. IsTrue alone → wave (core_of self.old) ≡ first ∷ []) }
+        ensures alone { IfOk result (λ next. is_none next ≡ true → wave (core_of self.old) ≡ first ∷ []) }
+        ensures several { IfOk result (λ next. IfSome next (λ planned. IsNextWave self.old first planned.items)) }
         ensures stays { self.new ≡ self.old }
     {
-        if self.is_for_all(first) {
-            return Ok(true);
+        self.link(alloc, first)?;
+        if self.is_seen_alone(first) {
+            return Ok(None);
         }
-        self.do_others_wait(alloc, first)
-    }
-
-    /// The next wave, as of `plan`, each place with its keys; places that wait for earlier ones by name are not looked
-    /// at in the tables. The caller knows that nothing is open, and which place is the first that is not closed: the wave
-    /// begins with it, so that one by itself may be executed by `carry_alone`. What the requests name by themselves is
-    /// gathered before the first wave. A place that waits so takes a step or two, and a closed one before the first
-    /// takes none.
-    ///
-    /// # Errors
-    ///
-    /// Out of memory.
-    pub fn plan_next(&mut self, alloc: Global, first: usize) -> Result<Vec<Planned>, NoMemory>
-        requires none { NothingIsOpen (core_of self.old) }
-        requires first { IsFirstUnclosed self.old.places first }
-        ensures plan { IfOk result (λ planned. IsPlan self.old planned.items) }
-        ensures in_turn { IfOk result (λ planned. MayOpenInTurn self.old planned.items) }
-        ensures begins { IfOk result (λ planned. slice_get (map (λ p. p.place) planned.items) 0 ≡ Some first) }
-        ensures stays { self.new ≡ self.old }
-    {
-        self.link(alloc, first)?;
-        self.plan_from(alloc, first)
+        let planned = self.plan_from(alloc, first)?;
+        if planned.len() == 1 {
+            return Ok(None);
+        }
+        Ok(Some(planned))
     }
 
     /// Opens the places of a wave, one after another: the jobs, one for each in this order, are all that is open then.

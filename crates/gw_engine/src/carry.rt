@@ -53,12 +53,11 @@ fn carry_wave<R: Threads + Sync, G: Gate>(
     ensures fewer { OnOk result (unclosed board.new.places < unclosed board.old.places) }
     ensures same { IsSameBurst board.old board.new }
 {
-    let wave = board.plan_next(alloc, first)?;
-    if wave.len() == 1 {
+    let Some(wave) = board.plan_next(alloc, first)? else {
         workers.gate.pass(0);
         board.carry_alone(alloc, first)?;
         return Ok(first);
-    }
+    };
     let jobs = board.open_wave(alloc, wave)?;
     let Ok(answers) = answers_to(workers, alloc, &jobs) else {
         board.close_unchanged(jobs);
@@ -91,13 +90,7 @@ fn carry_all<R: Threads + Sync, G: Gate>(
     }
     let mut closed = 0;
     while let Some(place) = board.first_unclosed(closed) {
-        if board.is_wave_alone(alloc, place)? {
-            workers.gate.pass(0);
-            board.carry_alone(alloc, place)?;
-            closed = place;
-        } else {
-            closed = carry_wave(workers, alloc, board, place)?;
-        }
+        closed = carry_wave(workers, alloc, board, place)?;
     }
     Ok(())
 }

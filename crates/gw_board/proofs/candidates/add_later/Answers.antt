@@ -3,11 +3,6 @@ use Rattle.gw_board.specs.Candidates.{is_in, places_in}
 use Rattle.gw_board.proofs.Joining.{got, in_front, in_last, listed_set, listed_stays}
 use Rattle.gw_board.proofs.candidates.add_later.Goals as goal
 
-pub returns-then-ends_in-clause-listed : goal.returns-then-ends_in-clause-listed
-returns-then-ends_in-clause-listed c =
-    listed_set c.args.later.now.items c.args.earlier c.args.place c.index_mut-places.result.now c.requires
-    (ap (is_in c.args.place) (sym c.as_slice.ensures) ∙ c.ends_in.ensures c.if-ends_in.true)
-
 pub returns-clause-listed : goal.returns-clause-listed
 returns-clause-listed c =
     listed_set c.args.later.now.items c.args.earlier c.args.place c.push.new.self c.requires

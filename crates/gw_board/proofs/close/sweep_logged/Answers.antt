@@ -5,11 +5,8 @@ use Rattle.gw_board.specs.Fitting.{Each}
 use Rattle.gw_board.specs.UndoLog.{UndoStep}
 use Rattle.gw_board.proofs.Orders.{each_joined}
 use Rattle.gw_table.proofs.Swept.{fewer_entries}
-use Rattle.gw_board.proofs.Spare.{all_swept, swept_on}
+use Rattle.gw_board.proofs.Spare.{swept_on}
 use Rattle.gw_board.proofs.close.sweep_logged.Goals as goal
-
-pub returns-then-all-clause-swept : goal.returns-then-all-clause-swept
-returns-then-all-clause-swept c = all_swept c.args.undo_log.now c.sweep.new.self c.sweep.ensures.ready
 
 pub returns-then-all-clause-fewer : goal.returns-then-all-clause-fewer
 returns-then-all-clause-fewer c = fewer_entries c.args.tables.now c.sweep.new.self c.sweep.ensures.maps c.sweep.ensures.ready

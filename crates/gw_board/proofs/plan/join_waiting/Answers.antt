@@ -1,11 +1,10 @@
-use Rattle.std.proofs.Common.{◌&&◌, Bool, true, false, not, List, is_some, refl, sym, ap, subst, ◌≡◌, ◌∙◌}
+use Rattle.std.proofs.Common.{◌&&◌, Bool, true, false, not, List, is_some, refl, sym, ap, ◌≡◌, ◌∙◌}
 use Rattle.std.specs.Bool.{then_some}
 use Rattle.std.specs.Prelude.{◌||◌, IfSome}
 use Rattle.gw_base.specs.declared.key.Key.{Key}
 use Rattle.gw_table.specs.Stored.{maps_of}
 use Rattle.gw_foot.specs.Meets.{meets}
 use Rattle.gw_board.specs.Carried.{keys_of}
-use Rattle.gw_board.specs.Core.{AreKeysOf}
 use Rattle.gw_board.specs.BoardEntries.{standing_of}
 use Rattle.gw_board.specs.Waiting.{meet_waiting}
 use Rattle.gw_board.specs.Waves.{is_pending}
@@ -44,11 +43,6 @@ module _ (c : After-then_some) where
 
 pub returns-clause-free : goal.returns-clause-free
 returns-clause-free c = ap is_some c.then_some.ensures ∙ visible (not c.in_ok-is_met.is_met) c.in_ok-keys.keys ∙ free c
-
-pub returns-clause-keys : goal.returns-clause-keys
-returns-clause-keys c =
-    let Mine : List Key → Type 0 = AreKeysOf c.args.board_entry.now.task (maps_of c.args.tables.now) in
-    subst (λ found. IfSome found Mine) (sym c.then_some.ensures) (if_visible Mine (not c.in_ok-is_met.is_met) c.in_ok-keys.keys (same c))
 
 pub returns-clause-waiting : goal.returns-clause-waiting
 returns-clause-waiting c = λ k. c.in_ok-is_met.ensures.more k ∙ more c k

@@ -4,14 +4,9 @@ use Rattle.gw_table.specs.Stored.{maps_of, AreReady}
 use Rattle.gw_board.specs.Fitting.{Each}
 use Rattle.gw_board.specs.UndoLog.{UndoStep, undone}
 use Rattle.gw_board.proofs.KeptIn.{all_ready}
-use Rattle.gw_board.proofs.Orders.{each_front, each_behind}
+use Rattle.gw_board.proofs.Orders.{each_front}
 use Rattle.gw_board.proofs.Steps.{undone-append}
 use Rattle.gw_board.proofs.undo_log.put_all_back.Goals as goal
-
-pub put_back-requires-clause-ready : goal.put_back-requires-clause-ready
-put_back-requires-clause-ready c =
-    (each_behind (λ o. AreReady o.keys c.loop-undo_step.tables) c.pop.new.self.items (c.in-Some.undo_step ∷ [])
-    (subst (λ (l : List UndoStep). Each (λ o. AreReady o.keys c.loop-undo_step.tables) l) c.in-Some.ensures.items c.loop-undo_step.invariant.ready)).0
 
 pub loop-undo_step-preserved : goal.loop-undo_step-preserved
 loop-undo_step-preserved c =

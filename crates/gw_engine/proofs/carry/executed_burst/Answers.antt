@@ -1,8 +1,7 @@
-use Rattle.std.proofs.Common.{List, length, subst, sym, ap, ◌∙◌}
-use Rattle.gw_board.specs.Boards.{Seen}
+use Rattle.std.proofs.Common.{List, length, sym, ap, ◌∙◌}
 use Rattle.gw_board.specs.Texts.{Text}
 use Rattle.gw_table.specs.Maps.{Outcome}
-use Rattle.gw_table.specs.Stored.{Stored, maps_of, AreSwept}
+use Rattle.gw_table.specs.Stored.{maps_of}
 use Rattle.gw_engine.specs.Phases.{texts_of, answers_of}
 use Rattle.gw_engine.specs.Replies.{entries_with}
 use Rattle.gw_engine.proofs.Carrying.{board_maps, board_entries, texts_held, length_carried, none_yet, comes_to}
@@ -37,8 +36,3 @@ returns-in-Ok-answered-clause-answers g c =
     ∙ ap (λ (l : List Text). answers_of c.args.profile.mid c.args.kept.now l c.args.items.now)
     (ap (λ (o : Outcome (List Text)). o.answer) came
     ∙ sym (ap texts_of (c.with_texts.ensures ∙ ap (entries_with c.args.jobs.now) texts) ∙ texts_held c.args.profile c.args.jobs.now (maps_of c.args.tables)))
-
-pub returns-in-Ok-answered-clause-swept : goal.returns-in-Ok-answered-clause-swept
-returns-in-Ok-answered-clause-swept g c =
-    c.finish-tables.ensures.swept
-    (subst (λ (s : Stored). AreSwept s) (sym (c.in-Ok-answered.ensures.same.start ∙ ap (λ (b : Seen). b.start) c.in-Ok-new.ensures.board)) c.requires.swept)

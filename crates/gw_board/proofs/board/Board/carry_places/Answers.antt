@@ -1,4 +1,4 @@
-use Rattle.std.proofs.Common.{◌≡◌, ◌≤◌, ◌+◌, ℕ, true, false, List, ◌∷◌, ◌++◌, [], map, drop, take, length, refl, sym, ap, subst, ◌∙◌, arith}
+use Rattle.std.proofs.Common.{◌≡◌, ◌≤◌, ◌+◌, ℕ, true, false, List, ◌∷◌, ◌++◌, [], map, drop, take, length, sym, ap, subst, ◌∙◌, arith}
 use Rattle.std.specs.Prelude.{◌&&◌, slice_get}
 use Rattle.gw_table.specs.Maps.{Maps}
 use Rattle.gw_table.specs.declared.undo_log.Write.{Write}
@@ -14,14 +14,13 @@ use Rattle.gw_board.specs.declared.board_entry.BoardEntry.{BoardEntry}
 use Rattle.gw_board.specs.Fitting.{Each}
 use Rattle.gw_board.specs.GoingOn.{MayGoOn}
 use Rattle.gw_board.specs.UndoLog.{UndoStep, undone}
-use Rattle.gw_board.specs.OpenJobs.{IsSameBurst}
 use Rattle.gw_board.specs.Results.{NothingIsOpen}
 use Rattle.gw_board.specs.BoardEntries.{place_of, undo_step_of_writes}
 use Rattle.gw_board.proofs.Comes.{out_of_none}
 use Rattle.gw_board.proofs.GoingOn.{begun_at, fewer_behind, first_left, left_behind, led_behind, led_from, none_pending, with_undo_log}
 use Rattle.gw_board.proofs.Joining.{candidates_beside}
 use Rattle.gw_board.proofs.KeptIn.{all_ready, begun_kept, none_out}
-use Rattle.gw_board.proofs.OnTheWay.{requested-pending, begun_way, gives_the_fold}
+use Rattle.gw_board.proofs.OnTheWay.{begun_way, gives_the_fold}
 use Rattle.gw_board.proofs.Orders.{each_joined}
 use Rattle.gw_board.proofs.BoardEntryFacts.{unclosed-pending, length-places, length-requested}
 use Rattle.gw_board.proofs.Spare.{swept_spare, alone_spare}
@@ -108,11 +107,6 @@ invariant_of-self g c =
 
 pub returns-in_default-clause-none : goal.returns-in_default-clause-none
 returns-in_default-clause-none g c = subst (λ (x : Seen). NothingIsOpen (core_of x)) (sym (is_begun g c)) (none_pending (requested_in (before g c).places))
-
-pub returns-in_default-clause-same : goal.returns-in_default-clause-same
-returns-in_default-clause-same g c =
-    let same : IsSameBurst (before g c) (left g c) = record { profile = refl; start = refl; requested = ap requested_in (places_are g c) ∙ requested-pending (requested_in (before g c).places) } in
-    subst (λ (x : Seen). IsSameBurst x (left g c)) c.self.view_is same
 
 pub returns-in_default-clause-outcome : goal.returns-in_default-clause-outcome
 returns-in_default-clause-outcome g c = gives_the_fold (left g c) (subst IsOnTheWay (sym (is_begun g c)) (begun_again g c))

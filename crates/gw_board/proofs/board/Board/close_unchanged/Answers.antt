@@ -1,18 +1,9 @@
-use Rattle.std.proofs.Common.{◌≡◌, List, [], ◌∷◌, ◌++◌, refl, sym, ap, subst, ◌∙◌, arith}
-use Rattle.gw_board.specs.Boards.{Seen, Handed, Ended, HasOpen, after_end, unchanged}
+use Rattle.std.proofs.Common.{◌≡◌, List, [], ◌∷◌, ◌++◌, sym, ap, subst, ◌∙◌, arith}
+use Rattle.gw_board.specs.Boards.{Seen, Handed, after_end, unchanged}
 use Rattle.gw_board.specs.OpenJobs.{after_each, AreOpen}
 use Rattle.gw_board.proofs.BoardEntryFacts.{nil_of}
-use Rattle.gw_board.proofs.WaveJobs.{last_first, last_open, was_unchanged, left_unchanged, none_open, nothing_left, same_itself, same_still}
+use Rattle.gw_board.proofs.WaveJobs.{last_first, was_unchanged, left_unchanged, none_open, nothing_left, same_still}
 use Rattle.gw_board.proofs.board.Board.close_unchanged.Goals as goal
-
-pub loop-job-init : goal.loop-job-init
-loop-job-init c = record { open_still = c.requires; board = refl; left = refl; same = same_itself c.args.self.now }
-
-pub close-requires : goal.close-requires
-close-requires c =
-    let b : Seen = c.loop-job.self in
-    let opened : AreOpen b (c.pop.new.self.items ++ c.in-Some.job ∷ []) = subst (λ (l : List Handed). AreOpen b l) c.in-Some.ensures.items c.loop-job.invariant.open_still in
-    subst (λ (e : Ended). HasOpen b e.job) (sym c.unchanged.ensures) (last_open b c.pop.new.self.items c.in-Some.job opened)
 
 pub loop-job-preserved : goal.loop-job-preserved
 loop-job-preserved c =
@@ -30,12 +21,6 @@ loop-job-preserved c =
       left = left_unchanged b d c.pop.new.self.items c.in-Some.job opened is ∙ c.loop-job.invariant.left;
       same = same_still c.args.self.now b d c.loop-job.invariant.same now.same;
     }
-
-pub returns-clause-board : goal.returns-clause-board
-returns-clause-board c =
-    let count = c.loop-job.jobs.ok.0 in
-    let zero = (nothing_left c.pop.result _ _ c.pop.ensures.cases c.in_default.not-Some).0 in
-    ap (after_each unchanged c.loop-job.self) (sym (nil_of c.loop-job.jobs.items (omega arith))) ∙ c.loop-job.invariant.board
 
 pub returns-clause-none : goal.returns-clause-none
 returns-clause-none c =

@@ -1,13 +1,9 @@
-use Rattle.std.specs.List.{list_all}
-use Rattle.std.proofs.Common.{◌≡◌, suc, ◌+◌, is_ok, length, List, [], ◌∷◌, ◌++◌, None, refl, sym, ap, subst, ◌∙◌, arith, length-append}
+use Rattle.std.proofs.Common.{◌≡◌, suc, ◌+◌, length, List, [], ◌∷◌, ◌++◌, None, sym, ap, subst, ◌∙◌, arith, length-append}
 use Rattle.gw_board.specs.Boards.{Seen, Handed, Ended, HasOpen, after_end, with_result, unclosed}
 use Rattle.gw_board.specs.OpenJobs.{after_each, AreOpen, AreAnswers}
 use Rattle.gw_board.proofs.BoardEntryFacts.{nil_of}
-use Rattle.gw_board.proofs.WaveJobs.{Reply, last_first, last_open, had_result, left_with_result, none_open, nothing_left, emptied, same_itself, same_still, last_there, answers_before, all_before, last_result}
+use Rattle.gw_board.proofs.WaveJobs.{Reply, last_first, last_open, had_result, left_with_result, none_open, nothing_left, emptied, same_still, last_there, answers_before, all_before, last_result}
 use Rattle.gw_board.proofs.board.Board.close_wave.Goals as goal
-
-pub loop-job-init : goal.loop-job-init
-loop-job-init c = record { open_still = c.requires.open; board = refl; answers = c.requires.answers; all = ap (list_all is_ok) (sym c.deref.ensures.value) ∙ sym c.are_all_ok.ensures ∙ c.if-not-are_all_ok.false; left = refl; same = same_itself c.args.self.now }
 
 pub result_in-part-requires : goal.result_in-part-requires
 result_in-part-requires c =
@@ -77,12 +73,6 @@ loop-job-preserved c =
       left = omega arith;
       same = same_still c.args.self.now b d c.loop-job.invariant.same now.same;
     }
-
-pub returns-clause-ok : goal.returns-clause-ok
-returns-clause-ok c =
-    let count = c.loop-job.jobs.ok.0 in
-    let zero = (nothing_left c.pop.result _ _ c.pop.ensures.cases c.in_default.not-Some).0 in
-    ap (after_each with_result c.loop-job.self) (sym (nil_of c.loop-job.jobs.items (omega arith))) ∙ c.loop-job.invariant.board
 
 pub returns-clause-none : goal.returns-clause-none
 returns-clause-none c =

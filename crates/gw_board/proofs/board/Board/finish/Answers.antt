@@ -1,9 +1,9 @@
-use Rattle.std.proofs.Common.{◌≡◌, List, [], ◌∷◌, map, length, sym, ap, subst, ◌∙◌, arith}
+use Rattle.std.proofs.Common.{◌≡◌, List, [], map, sym, ap, subst, ◌∙◌, arith}
 use Rattle.gw_board.specs.Texts.{Text}
 use Rattle.gw_table.specs.Maps.{Outcome}
 use Rattle.gw_table.specs.Stored.{maps_of, AreSwept, AreSweptAmong}
 use Rattle.gw_board.specs.BoardView.{value_of}
-use Rattle.gw_board.specs.Boards.{Seen, core_of, requested_in, AllClosed}
+use Rattle.gw_board.specs.Boards.{Seen, core_of, requested_in}
 use Rattle.gw_board.specs.Carried.{carried}
 use Rattle.gw_board.specs.Fitting.{Each}
 use Rattle.gw_board.specs.UndoLog.{UndoStep}
@@ -13,55 +13,10 @@ use Rattle.gw_board.specs.declared.board_entry.BoardEntry.{BoardEntry}
 use Rattle.gw_board.proofs.Comes.{all_closed, closed_ones, out_of_none}
 use Rattle.gw_board.proofs.KeptIn.{none_out}
 use Rattle.gw_board.proofs.OnTheWay.{gives_the_fold}
-use Rattle.gw_board.proofs.BoardEntryFacts.{closed_front, closed_reply, told_as, told_more, told_all, nil_of}
+use Rattle.gw_board.proofs.BoardEntryFacts.{told_as, told_all, nil_of}
 use Rattle.gw_board.proofs.Spare.{finished}
 use Rattle.gw_board.proofs.board.Board.finish.Goals as goal
 use Rattle.gw_board.proofs.board.Board.finish.Goals.{After-drop-self-inside-4}
-
-pub loop-board_entry-init : goal.loop-board_entry-init
-loop-board_entry-init c =
-    let rest = c.into_iter-board_entry-iterator.result.rest in
-    let all : rest.items ≡ c.self.inside.board_entries.items = c.into_iter-board_entry-iterator.ensures.into_iter_gives.0 in
-    let count : length rest.items ≡ length c.self.inside.board_entries.items = ap length all in
-    let none : length c.self.inside.replies.items ≡ 0 = ap length c.self.invariant.room.no_replies in
-    let room = c.self.invariant.room.replies in
-    let n = c.self.inside.replies.ok.0 in
-    let m = c.self.inside.board_entries.ok.0 in
-    let closed : AllClosed (map place_of c.self.inside.board_entries.items) = subst (λ (x : Seen). AllClosed x.places) (sym c.self.view_is) c.requires in
-    record {
-      limited_text = ap (λ (l : List Text). told_as l rest.items) c.self.invariant.room.no_replies;
-      closed = subst (λ (l : List BoardEntry). AllClosed (map place_of l)) (sym all) closed;
-      room = omega arith;
-    }
-
-pub unreachable-requires : goal.unreachable-requires
-unreachable-requires c =
-    closed_reply c.in-Some.board_entry.stage
-    (closed_front c.in-Some.board_entry c.next.new.self.rest.items (subst (λ (l : List BoardEntry). AllClosed (map place_of l)) c.in-Some.ensures.steps.0 c.loop-board_entry.invariant.closed)).0
-    c.in_default.not-Closed
-
-pub loop-board_entry-preserved : goal.loop-board_entry-preserved
-loop-board_entry-preserved c =
-    let split = c.in-Some.ensures.steps.0 in
-    let count : length c.loop-board_entry.board_entry-iterator.rest.items ≡ length (c.in-Some.board_entry ∷ c.next.new.self.rest.items) = ap length split in
-    let more = c.push_reserved.ensures.len in
-    let space = c.push_reserved.ensures.capacity in
-    let room = c.loop-board_entry.invariant.room in
-    record {
-      limited_text =
-          ap (λ (l : List Text). told_as l c.next.new.self.rest.items) c.push_reserved.ensures.items
-          ∙ told_more c.loop-board_entry.replies.items c.in-Closed.reply c.in-Some.board_entry c.next.new.self.rest.items c.in-Closed.is
-          ∙ ap (told_as c.loop-board_entry.replies.items) (sym split)
-          ∙ c.loop-board_entry.invariant.limited_text;
-      closed = (closed_front c.in-Some.board_entry c.next.new.self.rest.items (subst (λ (l : List BoardEntry). AllClosed (map place_of l)) split c.loop-board_entry.invariant.closed)).1;
-      room = omega arith;
-    }
-
-pub push_reserved-requires : goal.push_reserved-requires
-push_reserved-requires c =
-    let count : length c.loop-board_entry.board_entry-iterator.rest.items ≡ length (c.in-Some.board_entry ∷ c.next.new.self.rest.items) = ap length c.in-Some.ensures.steps.0 in
-    let room = c.loop-board_entry.invariant.room in
-    omega arith
 
 -- no seat is left, so each is closed with its reply
 closed_now : (board_entries first rest : List BoardEntry) (replies : List Text) → first ≡ board_entries → told_as replies rest ≡ told_as [] first → rest ≡ [] → AreClosed (map place_of board_entries) replies

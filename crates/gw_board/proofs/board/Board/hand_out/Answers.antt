@@ -131,6 +131,3 @@ returns-clause-job c =
 
 pub returns-clause-outcome : goal.returns-clause-outcome
 returns-clause-outcome c = gives_the_fold (new c) (subst IsOnTheWay (sym (is_new c)) (open_way (b c) c.self.invariant.on_the_way c.args.place c.args.task c.args.keys (may c)))
-
-pub returns-clause-keys : goal.returns-clause-keys
-returns-clause-keys c = part_keys c

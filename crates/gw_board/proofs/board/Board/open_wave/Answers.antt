@@ -1,9 +1,8 @@
-use Rattle.std.proofs.Common.{◌≡◌, map, length, List, [], ◌∷◌, ◌++◌, refl, sym, ap, subst, ◌∙◌, arith, append-nil}
+use Rattle.std.proofs.Common.{◌≡◌, map, length, List, [], ◌∷◌, ◌++◌, refl, sym, ap, subst, ◌∙◌, arith}
 use Rattle.gw_board.specs.Boards.{Seen, Handed, Opens}
 use Rattle.gw_board.specs.OpenJobs.{AreOpen}
 use Rattle.gw_board.specs.Planned.{MayOpenInTurn}
 use Rattle.gw_board.specs.declared.planned.Planned.{Planned}
-use Rattle.gw_board.proofs.BoardEntryFacts.{nil_of}
 use Rattle.gw_board.proofs.WaveJobs.{no_jobs, one_opened, one_placed, same_opened, left_opened, same_itself, same_still}
 use Rattle.gw_board.proofs.board.Board.open_wave.Goals as goal
 
@@ -24,9 +23,6 @@ loop-planned-init c =
       left = refl;
       same = same_itself old;
     }
-
-pub open_planned-requires : goal.open_planned-requires
-open_planned-requires c = (subst (λ (l : List Planned). MayOpenInTurn c.loop-planned.self l) c.in-Some.ensures.steps.0 c.loop-planned.invariant.turn).0
 
 pub loop-planned-preserved : goal.loop-planned-preserved
 loop-planned-preserved c =
@@ -52,10 +48,3 @@ loop-planned-preserved c =
       left = left_opened b d c.in-Some.planned.place job opened ∙ c.loop-planned.invariant.left;
       same = same_still c.args.self.now b d c.loop-planned.invariant.same (same_opened b d c.in-Some.planned.place job opened);
     }
-
-pub returns-clause-wave : goal.returns-clause-wave
-returns-clause-wave c =
-    let rest : length c.loop-planned.planned-iterator.rest.items ≡ 0 = (let n = c.in-None.ensures.steps.0 in let o = c.loop-planned.planned-iterator.rest.ok.0 in omega arith) in
-    sym (append-nil (map (λ (h : Handed). h.place) c.loop-planned.jobs.items))
-    ∙ ap (λ (l : List Planned). map (λ (h : Handed). h.place) c.loop-planned.jobs.items ++ map (λ (p : Planned). p.place) l) (sym (nil_of c.loop-planned.planned-iterator.rest.items rest))
-    ∙ c.loop-planned.invariant.places

@@ -1,21 +1,26 @@
-use Rattle.std.proofs.Common.{◌<◌, length, take, sym, ap, subst, arith}
-use Rattle.std.proofs.lemmas.Result.{IfOk-weaker}
-use Rattle.gw_board.specs.Boards.{Seen, AllClosed}
-use Rattle.gw_board.specs.Planned.{IsPlan}
-use Rattle.gw_board.proofs.FirstOfWave.{inside, plan_begins}
+use Rattle.std.proofs.Common.{◌≡◌, List, length, sym, subst, ◌∙◌, arith}
+use Rattle.gw_board.specs.Boards.{Seen, core_of}
+use Rattle.gw_board.specs.Planned.{IsPlan, MayOpenInTurn}
+use Rattle.gw_board.specs.declared.planned.Planned.{Planned}
+use Rattle.gw_board.specs.Results.{NothingIsOpen}
+use Rattle.gw_board.proofs.FirstOfWave.{plan_alone, plan_begins}
 use Rattle.gw_board.proofs.board.Board.plan_next.Goals as goal
 
-pub plan_from-requires-clause-inside : goal.plan_from-requires-clause-inside
-plan_from-requires-clause-inside c =
-    let below : c.args.first < length c.args.self.now.places = inside c.args.self.now.places c.args.first c.requires.first.here in
-    let same = ap (λ (x : Seen). length x.places) c.in_ok-link.ensures in
-    omega (arith, below, same)
+pub returns-then-len-eq1-clause-alone : goal.returns-then-len-eq1-clause-alone
+returns-then-len-eq1-clause-alone c = λ none.
+    let list : List Planned = c.in_ok-planned.planned.items in
+    let plan : IsPlan c.args.self.now list = subst (λ (x : Seen). IsPlan x list) c.in_ok-link.ensures c.in_ok-planned.ensures.plan in
+    let count = c.in_ok-planned.planned.ok.0 in
+    let len = sym c.len.ensures ∙ c.if-len-eq1.true in
+    let one : length list ≡ 1 = omega arith in
+    plan_alone c.args.self.now c.args.first list c.requires.none c.requires.first plan one
 
-pub plan_from-requires-clause-closed : goal.plan_from-requires-clause-closed
-plan_from-requires-clause-closed c = subst (λ (x : Seen). AllClosed (take c.args.first x.places)) (sym c.in_ok-link.ensures) c.requires.first.before
-
-pub returns-clause-begins : goal.returns-clause-begins
-returns-clause-begins c =
-    IfOk-weaker c.plan_from.result _ _
-    (λ planned h. plan_begins c.args.self.now c.args.first planned.items c.requires.none c.requires.first (subst (λ (x : Seen). IsPlan x planned.items) c.in_ok-link.ensures h))
-    c.plan_from.ensures.plan
+pub returns-clause-several : goal.returns-clause-several
+returns-clause-several c =
+    let list : List Planned = c.in_ok-planned.planned.items in
+    let plan : IsPlan c.args.self.now list = subst (λ (x : Seen). IsPlan x list) c.in_ok-link.ensures c.in_ok-planned.ensures.plan in
+    record {
+      plan = plan;
+      in_turn = subst (λ (x : Seen). NothingIsOpen (core_of x) → MayOpenInTurn x list) c.in_ok-link.ensures c.in_ok-planned.ensures.in_turn c.requires.none;
+      begins = plan_begins c.args.self.now c.args.first list c.requires.none c.requires.first plan;
+    }

@@ -14,9 +14,6 @@ pub put_all_back-requires-clause-here : goal.put_all_back-requires-clause-here
 put_all_back-requires-clause-here c =
     none_out (value_of c.self.inside) c.self.inside.tables c.self.invariant.kept (subst (λ (x : Seen). NothingIsOpen (core_of x)) (sym c.self.view_is) c.requires)
 
-pub put_all_back-requires-clause-ready : goal.put_all_back-requires-clause-ready
-put_all_back-requires-clause-ready c = c.self.invariant.kept.ready
-
 pub returns-clause-maps : goal.returns-clause-maps
 returns-clause-maps c =
     let b : Seen = value_of c.self.inside in

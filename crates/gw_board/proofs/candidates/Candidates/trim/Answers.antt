@@ -1,17 +1,10 @@
-use Rattle.std.proofs.Common.{◌≡◌, ℕ, false, map, sym, ap, ◌∙◌, arith}
+use Rattle.std.proofs.Common.{◌≡◌, ℕ, false, map, sym, ap, ◌∙◌}
 use Rattle.std.specs.Prelude.{slice_get}
 use Rattle.std.specs.BinaryHeap.{heap_items}
 use Rattle.gw_board.specs.BoardEntries.{place_of}
 use Rattle.gw_board.specs.Boards.{is_pending_at}
 use Rattle.gw_board.proofs.Joining.{free_popped, same_top}
 use Rattle.gw_board.proofs.candidates.Candidates.trim.Goals as goal
-
-pub unreachable-requires : goal.unreachable-requires
-unreachable-requires c =
-    let some = c.in-Some.ensures.item.3.0 in
-    let none = c.in_default-pop.ensures.none in
-    let own = c.loop-last.self.free.data.ok.0 in
-    omega arith
 
 pub loop-last-preserved : goal.loop-last-preserved
 loop-last-preserved c =

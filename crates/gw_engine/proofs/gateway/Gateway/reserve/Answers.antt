@@ -1,7 +1,5 @@
 use Rattle.std.proofs.Common.{◌≡◌, ℕ, ◌+◌, ◌++◌, List, drop, ap, subst, ◌∙◌}
-use Rattle.std.proofs.Math.ListN.{drop_of_length-le}
 use Rattle.std.specs.Option.{option_to_list}
-use Rattle.gw_reserve.specs.Owners.{AreWithin}
 use Rattle.gw_reserve.specs.Reservations.{Reserving, begun}
 use Rattle.gw_table.proofs.Folding.{rest_of}
 use Rattle.gw_engine.specs.declared.items.BurstItem.{BurstItem}
@@ -10,7 +8,7 @@ use Rattle.gw_engine.specs.Bursts.{cursors_of}
 use Rattle.gw_engine.specs.GatewayView.{value_of}
 use Rattle.gw_engine.specs.Phases.{new_for, new_in}
 use Rattle.gw_engine.specs.State.{GatewayValue}
-use Rattle.gw_engine.proofs.Reserving.{IsReserving, begins, item_on, are_jobs, cursors_end}
+use Rattle.gw_engine.proofs.Reserving.{IsReserving, begins, item_on}
 use Rattle.gw_engine.proofs.gateway.Gateway.reserve.Goals as goal
 
 pub loop-item-init : goal.loop-item-init
@@ -39,20 +37,3 @@ loop-item-preserved c =
       slots = done.slots ∙ c.loop-item.invariant.slots;
       owns = item_on c.args.self.now (new_in items) (new_in (drop i items)) (new_in rest) (new_for x.content x.class) c.loop-item.reservation c.push_job.new.reservation c.loop-item.jobs c.push_job.new.jobs split c.loop-item.invariant.owns done.jobs;
     }
-
--- no item is left
-pub returns-clause-jobs : goal.returns-clause-jobs
-returns-clause-jobs c =
-    let items : List BurstItem = c.args.items.now in
-    are_jobs c.args.self.now (new_in items) (new_in (drop c.loop-item.item-index items)) c.loop-item.reservation c.loop-item.jobs (ap new_in (drop_of_length-le items c.loop-item-test.false)) c.loop-item.invariant.owns
-
-pub returns-clause-cursors : goal.returns-clause-cursors
-returns-clause-cursors c =
-    let items : List BurstItem = c.args.items.now in
-    c.cursors.ensures.cursors
-    ∙ cursors_end c.args.self.now (new_in items) (new_in (drop c.loop-item.item-index items)) c.loop-item.reservation c.loop-item.jobs (ap new_in (drop_of_length-le items c.loop-item-test.false)) c.loop-item.invariant.owns
-
-pub returns-clause-within : goal.returns-clause-within
-returns-clause-within c =
-    subst (λ (n : ℕ). AreWithin n c.args.self.now.settings.slots c.cursors.result) c.loop-item.invariant.contexts
-    (subst (λ (n : ℕ). AreWithin c.loop-item.reservation.most_contexts n c.cursors.result) c.loop-item.invariant.slots c.cursors.ensures.within)

@@ -79,10 +79,3 @@ returns-clause-readable types c =
       read = read;
       answers_are = subst (λ (l : List Datagram). AllZip (IsAnswerTo g.settings.mid) (questions messages) l) (sym c.in_ok-answers.ensures.answers) out.readable;
     }
-
-pub returns-clause-counts : goal.returns-clause-counts
-returns-clause-counts types c = record {
-  messages = c.as_slice.result.now;
-  read = subst (λ (l : List ReadDatagram). AllZip IsReadAs c.args.burst.now l) (sym c.as_slice.ensures) c.in_ok-messages.ensures;
-  counts_are = c.in_ok-plan.ensures.counts;
-}

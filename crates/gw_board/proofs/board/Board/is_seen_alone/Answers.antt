@@ -6,14 +6,17 @@ use Rattle.gw_board.specs.Named.{IsNoneOfWave}
 use Rattle.gw_board.specs.BoardEntries.{place_of}
 use Rattle.gw_board.specs.declared.board_entry.BoardEntry.{BoardEntry}
 use Rattle.gw_board.proofs.BoardEntryFacts.{length-places}
-use Rattle.gw_board.proofs.FirstOfWave.{wave_alone}
-use Rattle.gw_board.proofs.board.Board.do_others_wait.Goals as goal
+use Rattle.gw_board.proofs.FirstOfWave.{wave_alone, wave_for_all}
+use Rattle.gw_board.proofs.board.Board.is_seen_alone.Goals as goal
 
-pub returns-clause-alone : goal.returns-clause-alone
-returns-clause-alone c = λ alone.
+pub returns-then-is_for_all : goal.returns-then-is_for_all
+returns-then-is_for_all c = λ alone. wave_for_all c.args.self.now c.args.first c.requires.none c.requires.first (c.is_for_all.ensures c.if-is_for_all.true)
+
+pub returns-else-is_for_all : goal.returns-else-is_for_all
+returns-else-is_for_all c = λ alone.
     let b : Seen = value_of c.self.inside in
     let items : List BoardEntry = c.self.inside.board_entries.items in
-    let seen : b ≡ c.args.self.now = c.self.view_is ∙ c.in_ok-link.ensures in
+    let seen : b ≡ c.args.self.now = c.self.view_is in
     let ends : c.end.result ≤ c.args.first + 1 = leb-true c.end.result (c.args.first + 1) alone in
     let count : length c.args.self.now.places ≡ length items = ap (λ (x : Seen). length x.places) (sym seen) ∙ length-places items in
     let all : length c.deref.result.now ≡ length items = ap length c.deref.ensures.value in
