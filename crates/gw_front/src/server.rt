@@ -14,7 +14,7 @@ use crate::losses::{Loss, Losses};
 use crate::reporter::{Report, Reporter};
 use crate::serve_fault::ServeFault;
 use crate::serve_options::ServeOptions;
-use crate::totals::{Totals, is_full};
+use crate::totals::{Totals, check_dropped};
 use gw_engine::{BurstAnswers, Datagram, Gate, Gateway, Workers};
 use std::alloc::{AllocError, Global};
 use std::io::{ErrorKind, Write};
@@ -240,10 +240,7 @@ impl<'a> Server<'a> {
             Err(_) => self.drop_burst(out),
         }
         self.inbox.clear();
-        if is_full(self.options.give_up, &self.totals) {
-            return Err(ServeFault::Full);
-        }
-        Ok(())
+        check_dropped(self.options.give_up, &self.totals)
     }
 
     /// After how many bursts serving ends.

@@ -1,8 +1,10 @@
 //! What was executed while a gateway was served.
 
-ghost use Rattle.std.specs.Prelude.{◌≡◌, ◌↔◌, IsTrue};
+ghost use Rattle.std.specs.Prelude.{◌≡◌, OnOk, IfErr};
+ghost use Rattle.gw_front.specs.declared.serve_fault.ServeFault.TheVariants.{Full as HasEnough};
 ghost use Rattle.gw_front.specs.TotalNumbers.{IsFull, no_totals, with_burst, with_dropped};
 
+use crate::serve_fault::ServeFault;
 use gw_engine::BurstCounts;
 
 /// What was executed while a gateway was served. A number that is full stays.
@@ -66,12 +68,19 @@ impl Totals {
     }
 }
 
-/// Whether as many bursts in a row were dropped as may be, one at the least.
-pub(crate) fn is_full(give_up: Option<u64>, totals: &Totals) -> bool
-    ensures { IsTrue result ↔ IsFull give_up totals.now }
+/// Ends serving where bursts are dropped too often.
+///
+/// # Errors
+///
+/// `Full` where as many bursts in a row were dropped as may be, one at the least.
+pub(crate) fn check_dropped(give_up: Option<u64>, totals: &Totals) -> Result<(), ServeFault>
+    ensures ok { OnOk result (¬ IsFull give_up totals.now) }
+    ensures fault { IfErr result (λ fault. (fault ≡ HasEnough) × IsFull give_up totals.now) }
 {
     match give_up {
-        Some(most) => totals.dropped_in_row >= most && totals.dropped_in_row > 0,
-        None => false,
+        Some(most) if totals.dropped_in_row >= most && totals.dropped_in_row > 0 => {
+            Err(ServeFault::Full)
+        }
+        _ => Ok(()),
     }
 }
