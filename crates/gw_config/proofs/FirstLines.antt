@@ -1,23 +1,20 @@
 -- The first line of a text.
-use Rattle.std.proofs.Common.{◌≡◌, ℕ, ◌<◌, ◌==◌, Bool, true, false, List, [], ◌∷◌, ◌++◌, length, refl, ap, ◌∙◌, arith, rules, ◌||◌}
+use Rattle.std.proofs.Common.{◌≡◌, ℕ, ◌<◌, ◌==◌, false, List, [], ◌∷◌, ◌++◌, length, refl, ap, ◌∙◌, arith, rules}
 use Rattle.std.specs.List.{list_any, slice_split, onto_first}
 use Rattle.std.specs.Str.Lines.{lines, lines_of_parts, strip_carriage_return}
+use Rattle.std.proofs.lemmas.Bool.{or_parts}
 use Rattle.std.proofs.lemmas.List.Splits.{slice_split-cons_yes, slice_split-cons_no, length-slice_split}
-
-neither : (a b : Bool) → (a || b) ≡ false → (a ≡ false) × (b ≡ false)
-neither true b h = absurd cc
-neither false b h = (refl, h)
 
 cut_at : (xs ys : List ℕ) → list_any (λ c. c == 10) xs ≡ false → slice_split (λ (b : ℕ). b == 10) (xs ++ 10 ∷ ys) ≡ xs ∷ slice_split (λ (b : ℕ). b == 10) ys
 cut_at [] ys h = slice_split-cons_yes (λ (b : ℕ). b == 10) (10) ys refl
 cut_at (x ∷ xs) ys h =
-    let free = neither (x == 10) (list_any (λ c. c == 10) xs) h in
+    let free = or_parts (x == 10) (list_any (λ c. c == 10) xs) h in
     slice_split-cons_no (λ (b : ℕ). b == 10) x (xs ++ 10 ∷ ys) free.0 ∙ ap (onto_first x) (cut_at xs ys free.1)
 
 uncut : (xs : List ℕ) → list_any (λ c. c == 10) xs ≡ false → slice_split (λ (b : ℕ). b == 10) xs ≡ xs ∷ []
 uncut [] h = refl
 uncut (x ∷ xs) h =
-    let free = neither (x == 10) (list_any (λ c. c == 10) xs) h in
+    let free = or_parts (x == 10) (list_any (λ c. c == 10) xs) h in
     slice_split-cons_no (λ (b : ℕ). b == 10) x xs free.0 ∙ ap (onto_first x) (uncut xs free.1)
 
 more_parts : (raw : List ℕ) (parts : List (List ℕ)) → 0 < length parts → lines_of_parts (raw ∷ parts) ≡ strip_carriage_return raw ∷ lines_of_parts parts

@@ -1,13 +1,8 @@
 -- Lines that are of no form.
-use Rattle.std.proofs.Common.{◌≡◌, ℕ, ◌≤◌, List, [], ◌∷◌, ◌++◌, length, refl, ap, sym, ◌∙◌, arith, rules, subst, length-append, codes, false}
-use Rattle.std.proofs.lemmas.List.{append_cancel_left}
-use Rattle.std.specs.Prelude.{Err, Option, Some, None, MatchOption}
+use Rattle.std.proofs.Common.{◌≡◌, ℕ, ◌≤◌, List, [], ◌∷◌, ◌++◌, length, refl, ap, sym, ◌∙◌, arith, subst, length-append, codes, false}
+use Rattle.std.proofs.lemmas.List.{append-nil, append_cancel_left}
+use Rattle.std.specs.Prelude.{Option, Some, None, MatchOption}
 use Rattle.std.proofs.lemmas.Bool.{and_parts as and_true}
-use Rattle.gw_base.specs.Addresses.{IsAddress, address_max}
-use Rattle.gw_base.specs.Names.{IsName, name_max}
-use Rattle.gw_base.specs.Reads.{ReadsAs}
-use Rattle.gw_base.specs.declared.fault.NameFault.{NameFault}
-use Rattle.gw_base.specs.declared.fault.NameFault.TheVariants.{Empty, TooLong, BadByte}
 use Rattle.std.specs.List.{list_all}
 use Rattle.gw_base.specs.Bytes.{is_digit}
 use Rattle.gw_text.specs.Runs.{begins}
@@ -20,24 +15,7 @@ use Rattle.gw_config.specs.declared.item.Item.{Item}
 use Rattle.gw_config.specs.declared.item.Item.TheVariants.{Nothing, Mid, Media, Contexts, Slots, Members, Keep, Term}
 use Rattle.gw_config.specs.ConfigTexts.{Says, IsSkipped, IsMidLine, IsMediaLine, IsTermLine, IsNumberLine}
 
--- a value behind a keyword is what stands behind it
-pub no_value : (IsForm : List ℕ → Type 0) (keyword rest line : List ℕ) → line ≡ keyword ++ rest → ¬ IsForm rest → (value : List ℕ) → ¬ ((line ≡ keyword ++ value) × IsForm value)
-no_value IsForm keyword rest line e none value = λ h. none (subst IsForm (append_cancel_left keyword value rest (sym h.0 ∙ e)) h.1)
-
-pub address_refused : (text : List ℕ) (fault : NameFault) → ReadsAs IsAddress address_max text (Err fault) → ¬ IsAddress text
-address_refused text Empty h = λ is. absurd (let some = is.some in omega (arith, ap length h))
-address_refused text TooLong h = λ is. absurd (let most = is.short in omega arith)
-address_refused text BadByte h = h.2
-
-pub name_refused : (text : List ℕ) (fault : NameFault) → ReadsAs IsName name_max text (Err fault) → ¬ IsName text
-name_refused text Empty h = λ is. absurd (let some = is.some in omega (arith, ap length h))
-name_refused text TooLong h = λ is. absurd (let most = is.short in omega arith)
-name_refused text BadByte h = h.2
-
 -- ---- numbers
-
-append_nil : (xs : List ℕ) → xs ++ [] ≡ xs
-append_nil xs = search rules
 
 no_bytes : (rest : List ℕ) → length rest ≤ 0 → rest ≡ []
 no_bytes [] h = refl
@@ -46,8 +24,7 @@ no_bytes (b ∷ bs) h = absurd (omega arith)
 -- the longest front of a text of the form is the text
 pub whole : (IsForm : List ℕ → Type 0) (text span rest : List ℕ) → IsLongest IsForm text span rest → IsForm text → rest ≡ []
 whole IsForm text span rest h is =
-    let same : text ≡ text ++ [] = search rules in
-    no_bytes rest (omega (arith, h.longest text [] same is, ap length h.split, length-append span rest))
+    no_bytes rest (omega (arith, h.longest text [] (sym (append-nil text)) is, ap length h.split, length-append span rest))
 
 pub some_run : (n : ℕ) (text : List ℕ) → IsUint32 n text → IsSomeRun is_digit text
 some_run n text is = record { run = is.digits; some = is.some }
@@ -60,7 +37,7 @@ pub no_uint32 : (text : List ℕ) (e : ScanFault) → HasNoNumber uint32_digits 
 no_uint32 text Unexpected h n = λ is. begins_run text (some_run n text is) h
 no_uint32 text Overflow h n = λ is.
     let end = whole (IsSomeRun is_digit) text h.0 h.1 h.2 (some_run n text is) in
-    let same : text ≡ h.0 = h.2.split ∙ ap (λ (z : List ℕ). h.0 ++ z) end ∙ append_nil h.0 in
+    let same : text ≡ h.0 = h.2.split ∙ ap (λ (z : List ℕ). h.0 ++ z) end ∙ append-nil h.0 in
     h.3 n (subst (IsUint32 n) same is)
 no_uint32 text TooDeep h n = λ is. h
 

@@ -1,7 +1,7 @@
 -- A replay, burst after burst.
 use Rattle.std.proofs.Common.{◌≡◌, inl, inr, ℕ, ◌+◌, List, [], ◌∷◌, ◌++◌, length, take, flat_map, Option, Some, None, IfSome, Result, Ok, Err, refl, ap, sym, subst, ◌∙◌, arith, append_assoc, length-append}
 use Rattle.std.specs.Io.KnownBytes.{Appends, Keeps, IsAtEnd}
-use Rattle.std.proofs.KnownBytes.{Appends-nil, Appends-trans}
+use Rattle.std.proofs.KnownBytes.{Appends-kept, Appends-nil, Appends-trans, Consumes-whole}
 use Rattle.std.proofs.lemmas.Grind.{flat_map-append}
 use Rattle.std.proofs.lemmas.List.{append-nil}
 use Rattle.gw_base.specs.Lang.{◌▹◌}
@@ -10,11 +10,11 @@ use Rattle.gw_engine.specs.State.{GatewayValue}
 use Rattle.gw_engine.specs.Bursts.{AnswersBurst}
 use Rattle.gw_front.specs.declared.counts.Counts.{Counts}
 use Rattle.gw_front.specs.declared.replay_fault.ReplayFault.{ReplayFault}
-use Rattle.gw_front.specs.declared.replay_fault.ReplayFault.TheVariants.{BadHeader, Truncated, TooLong, Read, Write, NoMemory}
+use Rattle.gw_front.specs.declared.replay_fault.ReplayFault.TheVariants.{Read, Write, NoMemory}
 use Rattle.gw_front.specs.AnswerTexts.{answers_text, all_answers_text}
 use Rattle.gw_front.specs.Records.{AreWholeBursts, IsBurst, IsLastBurst, AreBursts}
 use Rattle.gw_front.specs.RecordFaults.{IsFirstFault}
-use Rattle.gw_front.specs.Inputs.{IsFaultAt, TakesFrom, Ends}
+use Rattle.gw_front.specs.Inputs.{IsFaultAt, TakesFrom}
 use Rattle.gw_front.specs.Replays.{AnswersBursts, AreCounts, IsReplay, IsStopped, BeginsWith}
 use Rattle.gw_front.specs.Replaying.{IsBurstDone, CountsMore, IsSoFar}
 
@@ -99,54 +99,27 @@ stepped input now later before between after old mid new counts more b h t d = r
 
 -- ---- how it ends
 
-whole_at : (input now later : Option (List ℕ)) (bursts : List (List Datagram)) → IfSome input (AreWholeBursts bursts ▹ (λ rest. now ≡ Some rest)) → Ends now later → IfSome input (AreBursts bursts)
-whole_at None now later bursts h e = tt
-whole_at (Some x) None later bursts h e = let clash = h.second in absurd cc
-whole_at (Some x) (Some y) None bursts h e = absurd e.0
-whole_at (Some x) (Some y) (Some z) bursts h e =
-    let none : h.back ≡ [] = let a = h.second in let b = e.0 in let c = e.1 in cc in
-    inl (subst (AreWholeBursts bursts) (sym (h.split ∙ ap (λ (l : List ℕ). h.front ++ l) none ∙ append-nil h.front)) h.first)
+-- what holds of the text that is left holds of it behind the bursts
+behind_bursts : (At : List ℕ → Type 0) (input now : Option (List ℕ)) (bursts : List (List Datagram)) → IfSome input (AreWholeBursts bursts ▹ (λ rest. now ≡ Some rest)) → IfSome now At → IfSome input (AreWholeBursts bursts ▹ At)
+behind_bursts At None now bursts h f = tt
+behind_bursts At (Some x) None bursts h f = let clash = h.second in absurd cc
+behind_bursts At (Some x) (Some y) bursts h f =
+    let same : y ≡ h.back = let e = h.second in cc in
+    record { front = h.front; back = h.back; split = h.split; first = h.first; second = subst At same f }
 
--- at the end of the input
-pub ended : (input now later before after : Option (List ℕ)) (old new : GatewayValue) (counts : Counts) → IsSoFar input now before after old new counts → Ends now later → IsReplay input before after old new (Ok counts)
-ended input now later before after old new counts h e = record {
-  bursts = h.bursts;
-  answers = h.answers;
-  read = whole_at input now later h.bursts h.read e;
-  carried = h.carried;
-  written = h.written;
-  counted = h.counted;
-}
-
-last_at : (input now later : Option (List ℕ)) (bursts : List (List Datagram)) (b : List Datagram) → IfSome input (AreWholeBursts bursts ▹ (λ rest. now ≡ Some rest)) → TakesFrom (IsLastBurst b) now later → IsAtEnd later
-    → IfSome input (AreWholeBursts bursts ▹ IsLastBurst b)
-last_at None now later bursts b h t e = tt
-last_at (Some x) None later bursts b h t e = let clash = h.second in absurd cc
-last_at (Some x) (Some y) None bursts b h t e = absurd t.2
-last_at (Some x) (Some y) (Some z) bursts b h t e =
-    let same : h.back ≡ t.0 = let a = h.second in let whole : y ≡ t.0 = t.2 ∙ ap (λ (l : List ℕ). t.0 ++ l) e ∙ append-nil t.0 in cc in
-    record { front = h.front; back = h.back; split = h.split; first = h.first; second = subst (IsLastBurst b) (sym same) t.1 }
+always : (now : Option (List ℕ)) → IfSome now (λ rest. Unit {0})
+always None = tt
+always (Some x) = tt
 
 ends_with : (input : Option (List ℕ)) (bursts : List (List Datagram)) (b : List Datagram) → IfSome input (AreWholeBursts bursts ▹ IsLastBurst b) → IfSome input (AreBursts (bursts ++ b ∷ []))
 ends_with None bursts b h = tt
 ends_with (Some x) bursts b h = inr (record { whole = bursts; last = b; all = refl; form = h })
 
-begins_last : (input : Option (List ℕ)) (bursts : List (List Datagram)) (b : List Datagram) → IfSome input (AreWholeBursts bursts ▹ IsLastBurst b) → IfSome input (AreWholeBursts bursts ▹ BeginsWith b)
-begins_last None bursts b h = tt
-begins_last (Some x) bursts b h = record { front = h.front; back = h.back; split = h.split; first = h.first; second = inr h.second }
-
-begins_whole : (input now later : Option (List ℕ)) (bursts : List (List Datagram)) (b : List Datagram) → IfSome input (AreWholeBursts bursts ▹ (λ rest. now ≡ Some rest)) → TakesFrom (IsBurst b) now later
-    → IfSome input (AreWholeBursts bursts ▹ BeginsWith b)
-begins_whole None now later bursts b h t = tt
-begins_whole (Some x) None later bursts b h t = let clash = h.second in absurd cc
-begins_whole (Some x) (Some y) None bursts b h t = absurd t.2
-begins_whole (Some x) (Some y) (Some z) bursts b h t =
-    let same : h.back ≡ t.0 ++ z = let a = h.second in let whole = t.2 in cc in
-    record { front = h.front; back = h.back; split = h.split; first = h.first; second = inl (record { front = t.0; back = z; split = same; first = t.1; second = tt }) }
-
-anything : (input now : Option (List ℕ)) (bursts : List (List Datagram)) → IfSome input (AreWholeBursts bursts ▹ (λ rest. now ≡ Some rest)) → IfSome input (AreWholeBursts bursts ▹ (λ rest. Unit {0}))
-anything None now bursts h = tt
-anything (Some x) now bursts h = record { front = h.front; back = h.back; split = h.split; first = h.first; second = tt }
+-- a burst that was taken stands there
+begins_at : (now later : Option (List ℕ)) (b : List Datagram) → TakesFrom (IsBurst b) now later → IfSome now (BeginsWith b)
+begins_at None later b t = tt
+begins_at (Some y) None b t = absurd t.2
+begins_at (Some y) (Some z) b t = inl (record { front = t.0; back = z; split = t.2; first = t.1; second = tt })
 
 -- a front of the answers to a burst is out
 short_of : (input before between after : Option (List ℕ)) (now : Option (List ℕ)) (old mid new : GatewayValue) (counts : Counts) (b : List Datagram) → (h : IsSoFar input now before between old mid counts)
@@ -162,31 +135,22 @@ short_of input before between after now old mid new counts b h read d = record {
   written = Appends-trans before between after (all_answers_text h.answers) (take d.2.0 (answers_text d.0)) h.written d.2.1;
 }
 
-kept : (before between after : Option (List ℕ)) (text : List ℕ) → Appends before between text → Keeps between after → Appends before after text
-kept None between after text p k = tt
-kept (Some x) None after text p k = absurd p
-kept (Some x) (Some y) None text p k = absurd k
-kept (Some x) (Some y) (Some z) text p k = k ∙ p
-
 -- a burst was not executed
 refused : (input now before between after : Option (List ℕ)) (old mid new : GatewayValue) (counts : Counts) → IsSoFar input now before between old mid counts → Keeps between after → new ≡ mid → IsReplay input before after old new (Err NoMemory)
 refused input now before between after old mid new counts h k same = record {
   bursts = h.bursts;
   answers = h.answers;
-  read = anything input now h.bursts h.read;
+  read = behind_bursts (λ rest. Unit {0}) input now h.bursts h.read (always now);
   carried = subst (λ (g : GatewayValue). AnswersBursts old h.bursts h.answers g) (sym same) h.carried;
-  written = kept before between after (all_answers_text h.answers) h.written k;
+  written = Appends-kept before between after (all_answers_text h.answers) h.written k;
 }
 
 -- a burst was not executed, or not written whole
 pub failed : (input now later before between after : Option (List ℕ)) (old mid new : GatewayValue) (counts : Counts) (b : List Datagram) (fault : ReplayFault) → IsSoFar input now before between old mid counts
     → TakesFrom (IsBurst b) now later → IsBurstDone b counts between after mid new (Err fault) → IsReplay input before after old new (Err fault)
-failed input now later before between after old mid new counts b Write h t d = short_of input before between after now old mid new counts b h (begins_whole input now later h.bursts b h.read t) d
+failed input now later before between after old mid new counts b Write h t d = short_of input before between after now old mid new counts b h (behind_bursts (BeginsWith b) input now h.bursts h.read (begins_at now later b t)) d
 failed input now later before between after old mid new counts b NoMemory h t d = refused input now before between after old mid new counts h d.0 d.1
-failed input now later before between after old mid new counts b BadHeader h t d = absurd d
-failed input now later before between after old mid new counts b Truncated h t d = absurd d
-failed input now later before between after old mid new counts b TooLong h t d = absurd d
-failed input now later before between after old mid new counts b Read h t d = absurd d
+failed input now later before between after old mid new counts b fault h t d = absurd d
 
 -- the last burst was executed, or not
 pub last_done : (input now later before between after : Option (List ℕ)) (old mid new : GatewayValue) (counts : Counts) (b : List Datagram) (result : Result Counts ReplayFault) → IsSoFar input now before between old mid counts
@@ -194,47 +158,33 @@ pub last_done : (input now later before between after : Option (List ℕ)) (old 
 last_done input now later before between after old mid new counts b (Ok more) h t d = record {
   bursts = h.bursts ++ b ∷ [];
   answers = h.answers ++ d.0 ∷ [];
-  read = ends_with input h.bursts b (last_at input now later h.bursts b h.read t.0 t.1);
+  read = ends_with input h.bursts b
+      (behind_bursts (IsLastBurst b) input now h.bursts h.read (Consumes-whole now later t.0.0 (IsLastBurst b) t.0.2 t.1 t.0.1));
   carried = answers_more old mid new h.bursts h.answers b d.0 h.carried d.1;
   written = subst (λ (l : List ℕ). Appends before after l) (sym (text_more h.answers d.0)) (Appends-trans before between after (all_answers_text h.answers) (answers_text d.0) h.written d.2);
   counted = counts_more counts more h.bursts h.answers b d.0 h.counted d.3;
 }
 last_done input now later before between after old mid new counts b (Err Write) h t d =
-    short_of input before between after now old mid new counts b h (begins_last input h.bursts b (last_at input now later h.bursts b h.read t.0 t.1)) d
+    short_of input before between after now old mid new counts b h
+    (behind_bursts (BeginsWith b) input now h.bursts h.read (Consumes-whole now later t.0.0 (BeginsWith b) t.0.2 t.1 (inr t.0.1))) d
 last_done input now later before between after old mid new counts b (Err NoMemory) h t d = refused input now before between after old mid new counts h d.0 d.1
-last_done input now later before between after old mid new counts b (Err BadHeader) h t d = absurd d
-last_done input now later before between after old mid new counts b (Err Truncated) h t d = absurd d
-last_done input now later before between after old mid new counts b (Err TooLong) h t d = absurd d
-last_done input now later before between after old mid new counts b (Err Read) h t d = absurd d
-
-fault_at : (At : List ℕ → Type 0) (input now : Option (List ℕ)) (bursts : List (List Datagram)) → IfSome input (AreWholeBursts bursts ▹ (λ rest. now ≡ Some rest)) → IfSome now At → IfSome input (AreWholeBursts bursts ▹ At)
-fault_at At None now bursts h f = tt
-fault_at At (Some x) None bursts h f = let clash = h.second in absurd cc
-fault_at At (Some x) (Some y) bursts h f =
-    let same : y ≡ h.back = let e = h.second in cc in
-    record { front = h.front; back = h.back; split = h.split; first = h.first; second = subst At same f }
+last_done input now later before between after old mid new counts b (Err fault) h t d = absurd d
 
 stopped_by : (At : List ℕ → Type 0) (input now before after : Option (List ℕ)) (old new : GatewayValue) (counts : Counts) → IsSoFar input now before after old new counts → IfSome now At → IsStopped At input before after old new
 stopped_by At input now before after old new counts h f = record {
   bursts = h.bursts;
   answers = h.answers;
-  read = fault_at At input now h.bursts h.read f;
+  read = behind_bursts At input now h.bursts h.read f;
   carried = h.carried;
   written = h.written;
 }
 
-always : (now : Option (List ℕ)) → IfSome now (λ rest. Unit {0})
-always None = tt
-always (Some x) = tt
-
 -- no burst was read
 pub stopped : (input now before after : Option (List ℕ)) (old new : GatewayValue) (counts : Counts) (fault : ReplayFault) → IsSoFar input now before after old new counts → IsFaultAt IsFirstFault now fault → IsReplay input before after old new (Err fault)
-stopped input now before after old new counts BadHeader h f = stopped_by (IsFirstFault BadHeader) input now before after old new counts h f
-stopped input now before after old new counts Truncated h f = stopped_by (IsFirstFault Truncated) input now before after old new counts h f
-stopped input now before after old new counts TooLong h f = stopped_by (IsFirstFault TooLong) input now before after old new counts h f
 stopped input now before after old new counts Read h f = stopped_by (λ rest. Unit {0}) input now before after old new counts h (always now)
 stopped input now before after old new counts NoMemory h f = stopped_by (λ rest. Unit {0}) input now before after old new counts h (always now)
 stopped input now before after old new counts Write h f = absurd f
+stopped input now before after old new counts fault h f = stopped_by (IsFirstFault fault) input now before after old new counts h f
 
 -- nothing was read
 pub not_begun : (input before : Option (List ℕ)) (old : GatewayValue) → IsReplay input before before old old (Err NoMemory)

@@ -1,8 +1,7 @@
 -- How a burst is gathered, datagram after datagram.
-use Rattle.std.proofs.Common.{inl, inr, ◌≡◌, ℕ, ◌+◌, ◌<◌, ◌≤◌, Bool, true, false, ◌&&◌, refl, List, [], ◌∷◌, ◌++◌, length, cond, leb, Option, ap, sym, subst, ◌∙◌, append_assoc, arith, length-append}
+use Rattle.std.proofs.Common.{◌≡◌, ℕ, ◌+◌, ◌<◌, ◌≤◌, Bool, true, false, ◌&&◌, refl, List, [], ◌∷◌, ◌++◌, length, cond, Option, ap, sym, subst, ◌∙◌, append_assoc, arith, length-append}
 use Rattle.std.specs.Prelude.{Result, Ok, Err, is_err, OnOk}
-use Rattle.std.proofs.lemmas.Bool.{le-leb, false≢true}
-use Rattle.std.proofs.lemmas.Bool.Decides.{leb_tells}
+use Rattle.std.proofs.lemmas.Bool.{le-leb, lt-leb, false≢true}
 use Rattle.std.proofs.lemmas.List.{append-nil, map-append, length-map}
 use Rattle.std.proofs.lemmas.List.Elements.{filter-append}
 use Rattle.std.specs.declared.net.socket_addr.SocketAddr.{SocketAddr}
@@ -11,7 +10,7 @@ use Rattle.gw_front.specs.Controllers.{is_admitted}
 use Rattle.gw_front.specs.declared.controllers.Controller.{Controller}
 use Rattle.gw_front.specs.Events.{Packet, Event, came, came_all, Happens}
 use Rattle.gw_front.specs.Inboxes.{Holds, Gathers}
-use Rattle.gw_front.specs.Serving.{taken, is_taken, burst_from, burst_of, senders_of}
+use Rattle.gw_front.specs.Serving.{taken, is_taken, burst_from, burst_of}
 use Rattle.gw_front.specs.Servers.{HasSame}
 use Rattle.gw_front.specs.declared.inbox.Inbox.{Inbox}
 use Rattle.gw_front.specs.declared.serve_options.ServeOptions.{ServeOptions}
@@ -42,10 +41,6 @@ burst_of-more packets packet =
     let e : 0 + length packets ≡ length packets = omega arith in
     burst_from-more 0 packets packet ∙ ap (λ (n : ℕ). burst_of packets ++ datagram_at n packet ∷ []) e
 
-senders_of-more : (packets : List Packet) (packet : Packet)
-    → senders_of (packets ++ packet ∷ []) ≡ senders_of packets ++ packet.address ∷ []
-senders_of-more packets packet = map-append (λ l. l.address) packets (packet ∷ [])
-
 -- the datagram went last
 pub Holds-more : (old new : Inbox) (packets : List Packet) (packet : Packet) → Holds old packets
     → (new.is_refused ≡ false
@@ -65,88 +60,52 @@ Holds-more old new packets packet h push = record {
   senders = λ e.
       let p = push e in
       p.2 ∙ ap (λ (l : List SocketAddr). l ++ packet.address ∷ []) (h.senders p.0)
-      ∙ sym (senders_of-more packets packet);
+      ∙ sym (map-append (λ l. l.address) packets (packet ∷ []));
   refused = λ e. omega (arith, length-append packets (packet ∷ []));
 }
 
 -- ---- which are taken
 
-taken-one : (controllers : List Controller) (packet : Packet) → is_admitted controllers packet.address ≡ true
+pub taken-one : (controllers : List Controller) (packet : Packet) → is_admitted controllers packet.address ≡ true
     → length packet.bytes ≤ 65507 → taken controllers (packet ∷ []) ≡ packet ∷ []
 taken-one controllers packet admitted short = rw (admitted, le-leb (length packet.bytes) 65507 short) refl
 
-taken-stranger : (controllers : List Controller) (packet : Packet) → is_admitted controllers packet.address ≡ false
+pub taken-stranger : (controllers : List Controller) (packet : Packet) → is_admitted controllers packet.address ≡ false
     → taken controllers (packet ∷ []) ≡ []
 taken-stranger controllers packet stranger = rw stranger refl
 
-taken-long : (controllers : List Controller) (packet : Packet) → 65507 < length packet.bytes
+pub taken-long : (controllers : List Controller) (packet : Packet) → 65507 < length packet.bytes
     → taken controllers (packet ∷ []) ≡ []
-taken-long controllers packet long = elim (leb_tells (length packet.bytes) 65507) [
-  | inl h ↦ absurd (omega (arith, h.1))
-  | inr h ↦ none (is_admitted controllers packet.address) (leb (length packet.bytes) 65507) h.0
-]
+taken-long controllers packet long =
+    rw (lt-leb (length packet.bytes) 65507 long) (none (is_admitted controllers packet.address))
   where
-    none : (a b : Bool) → b ≡ false → cond (a && b) (packet ∷ []) [] ≡ []
-    none true b e = rw e refl
-    none false b e = refl
-
-taken-append : (controllers : List Controller) (xs ys : List Packet)
-    → taken controllers (xs ++ ys) ≡ taken controllers xs ++ taken controllers ys
-taken-append controllers xs ys = filter-append (is_taken controllers) xs ys
+    none : (a : Bool) → cond (a && false) (packet ∷ []) [] ≡ []
+    none true = refl
+    none false = refl
 
 -- ---- receipts
 
-pub gathers_nothing : (controllers : List Controller) (a b : Option (List Event)) (i j : Inbox) → Happens a b [] → j ≡ i
-    → Gathers controllers a b i j
-gathers_nothing controllers a b i j h e = record {
-  packets = [];
-  happened = h;
-  holds = λ earlier p. subst (λ (k : Inbox). Holds k (taken controllers (earlier ++ []))) (sym e)
-      (subst (λ (l : List Packet). Holds i (taken controllers l)) (sym (append-nil earlier)) p);
-}
-
-pub gathers_one : (controllers : List Controller) (a b : Option (List Event)) (i j : Inbox) (packet : Packet)
-    → Happens a b (came_all (packet ∷ [])) → is_admitted controllers packet.address ≡ true → length packet.bytes ≤ 65507
-    → ((packets : List Packet) → Holds i packets → Holds j (packets ++ packet ∷ [])) → Gathers controllers a b i j
-gathers_one controllers a b i j packet h admitted short takes = record {
+-- a datagram came, of which this much is taken
+pub gathers_packet : {controllers : List Controller} {i j : Inbox} (a b : Option (List Event)) (packet : Packet) (l : List Packet)
+    → Happens a b (came_all (packet ∷ [])) → taken controllers (packet ∷ []) ≡ l
+    → ((packets : List Packet) → Holds i packets → Holds j (packets ++ l)) → Gathers controllers a b i j
+gathers_packet {controllers} {i} {j} a b packet l h e takes = record {
   packets = packet ∷ [];
   happened = h;
-  holds = λ earlier p.
-      let e : taken controllers (earlier ++ packet ∷ []) ≡ taken controllers earlier ++ packet ∷ [] =
-      taken-append controllers earlier (packet ∷ [])
-      ∙ ap (λ (l : List Packet). taken controllers earlier ++ l) (taken-one controllers packet admitted short) in
-      subst (λ (l : List Packet). Holds j l) (sym e) (takes (taken controllers earlier) p);
+  holds = λ earlier p. subst (λ (x : List Packet). Holds j x)
+      (sym (filter-append (is_taken controllers) earlier (packet ∷ [])
+      ∙ ap (λ (x : List Packet). taken controllers earlier ++ x) e)) (takes (taken controllers earlier) p);
 }
 
-gathers_none : (controllers : List Controller) (a b : Option (List Event)) (i j : Inbox) (packet : Packet)
-    → Happens a b (came_all (packet ∷ [])) → taken controllers (packet ∷ []) ≡ [] → j ≡ i → Gathers controllers a b i j
-gathers_none controllers a b i j packet h none same = record {
-  packets = packet ∷ [];
-  happened = h;
-  holds = λ earlier p.
-      let e : taken controllers (earlier ++ packet ∷ []) ≡ taken controllers earlier =
-      taken-append controllers earlier (packet ∷ []) ∙ ap (λ (l : List Packet). taken controllers earlier ++ l) none
-      ∙ append-nil (taken controllers earlier) in
-      subst (λ (k : Inbox). Holds k (taken controllers (earlier ++ packet ∷ []))) (sym same)
-      (subst (λ (l : List Packet). Holds i l) (sym e) p);
-}
+-- it is not taken
+pub gathers_none : {controllers : List Controller} {i : Inbox} (a b : Option (List Event)) (packet : Packet)
+    → Happens a b (came_all (packet ∷ [])) → taken controllers (packet ∷ []) ≡ [] → Gathers controllers a b i i
+gathers_none {i = i} a b packet h none =
+    gathers_packet a b packet [] h none (λ packets p. subst (λ (x : List Packet). Holds i x) (sym (append-nil packets)) p)
 
--- it is too long
-pub gathers_long : (controllers : List Controller) (a b : Option (List Event)) (i j : Inbox) (packet : Packet)
-    → Happens a b (came_all (packet ∷ [])) → 65507 < length packet.bytes → j ≡ i → Gathers controllers a b i j
-gathers_long controllers a b i j packet h long same =
-    gathers_none controllers a b i j packet h (taken-long controllers packet long) same
-
--- it is from no controller
-pub gathers_stranger : (controllers : List Controller) (a b : Option (List Event)) (i j : Inbox) (packet : Packet)
-    → Happens a b (came_all (packet ∷ [])) → is_admitted controllers packet.address ≡ false → j ≡ i
-    → Gathers controllers a b i j
-gathers_stranger controllers a b i j packet h stranger same =
-    gathers_none controllers a b i j packet h (taken-stranger controllers packet stranger) same
-
-pub gathers_more : (controllers : List Controller) (a b c : Option (List Event)) (i j k : Inbox)
+gathers_more : {controllers : List Controller} {a b c : Option (List Event)} {i j k : Inbox}
     → Gathers controllers a b i j → Gathers controllers b c j k → Gathers controllers a c i k
-gathers_more controllers a b c i j k p q = record {
+gathers_more {controllers} {a} {b} {c} {i} {j} {k} p q = record {
   packets = p.packets ++ q.packets;
   happened = subst (λ (l : List Event). Happens a c l) (sym (map-append (λ l. came l) p.packets q.packets))
       (Happens-trans a b c _ _ p.happened q.happened);
@@ -159,20 +118,19 @@ on_ok (Ok done) e h = h
 on_ok (Err fault) e h = absurd (false≢true (sym e))
 
 -- nothing happened behind it
-pub gathers_still : (controllers : List Controller) (a b c : Option (List Event)) (i j : Inbox)
+pub gathers_still : {controllers : List Controller} {a b c : Option (List Event)} {i j : Inbox}
     → Gathers controllers a b i j → Happens b c [] → Gathers controllers a c i j
-gathers_still controllers a b c i j p h =
+gathers_still {controllers} {a} {b} {c} p h =
     record { packets = p.packets; happened = Happens-nothing a b c _ p.happened h; holds = p.holds }
 
 -- ---- of a server
 
-pub HasSame-trans : (a b c : Server) → HasSame a b → HasSame b c → HasSame a c
-HasSame-trans a b c p q = record { options = q.options ∙ p.options; totals = q.totals ∙ p.totals }
+pub HasSame-trans : {a b c : Server} → HasSame a b → HasSame b c → HasSame a c
+HasSame-trans p q = record { options = q.options ∙ p.options; totals = q.totals ∙ p.totals }
 
 -- more by a server that is told the same
-pub gathers_next : (old now : Server) (a b c : Option (List Event)) (i j k : Inbox) → HasSame old now
+pub gathers_next : {old now : Server} {a b c : Option (List Event)} {i j k : Inbox} → HasSame old now
     → Gathers old.options.controllers.now a b i j → Gathers now.options.controllers.now b c j k
     → Gathers old.options.controllers.now a c i k
-gathers_next old now a b c i j k same p q =
-    gathers_more old.options.controllers.now a b c i j k p
-    (subst (λ (o : ServeOptions). Gathers o.controllers.now b c j k) same.options q)
+gathers_next {b = b} {c = c} {j = j} {k = k} same p q =
+    gathers_more p (subst (λ (o : ServeOptions). Gathers o.controllers.now b c j k) same.options q)

@@ -1,5 +1,5 @@
 -- What happened, piece after piece.
-use Rattle.std.proofs.Common.{List, [], ◌++◌, Option, Some, None, ap, sym, ◌∙◌, append_assoc}
+use Rattle.std.proofs.Common.{List, [], ◌++◌, Option, Some, None, ap, subst, sym, ◌∙◌, append_assoc}
 use Rattle.std.proofs.lemmas.List.{append-nil}
 use Rattle.gw_front.specs.Events.{Event, Happens}
 
@@ -15,7 +15,4 @@ Happens-refl (Some x) = sym (append-nil x)
 
 -- nothing more happened
 pub Happens-nothing : (a b c : Option (List Event)) (xs : List Event) → Happens a b xs → Happens b c [] → Happens a c xs
-Happens-nothing None b c xs p q = tt
-Happens-nothing (Some x) None c xs p q = absurd p
-Happens-nothing (Some x) (Some y) None xs p q = absurd q
-Happens-nothing (Some x) (Some y) (Some z) xs p q = q ∙ append-nil y ∙ p
+Happens-nothing a b c xs p q = subst (λ (l : List Event). Happens a c l) (append-nil xs) (Happens-trans a b c xs [] p q)

@@ -10,5 +10,4 @@ pub mod OneFault
 pub mod Happening
 pub mod Gathering
 pub mod Outgoing
-pub mod BarePieces
 pub mod WholeInput

@@ -1,45 +1,39 @@
--- A text that is to be bursts has one first fault at most, and none where it is bursts.
-use Rattle.std.proofs.Common.{◌≡◌, ◌⊎◌, inl, inr, ℕ, ◌==◌, ◌+◌, ◌<◌, ◌≤◌, Bool, true, false, ◌||◌, List, [], ◌∷◌, ◌++◌, length, codes, refl, ap, sym, subst, ◌∙◌, arith, append_assoc, length-append}
+-- A text is one list of bursts at most; one that is to be bursts has one first fault at most, and none where it is bursts.
+use Rattle.std.proofs.Common.{◌≡◌, ◌⊎◌, inl, inr, ℕ, ◌==◌, ◌+◌, ◌<◌, ◌≤◌, true, false, List, [], ◌∷◌, ◌++◌, length, codes, refl, ap, ap₂, sym, subst, ◌∙◌, arith, append_assoc, length-append}
 use Rattle.std.specs.List.{list_any}
+use Rattle.std.proofs.Math.Bool.{or-true}
+use Rattle.std.proofs.lemmas.Bool.{or_parts}
 use Rattle.std.proofs.lemmas.List.{append-nil}
 use Rattle.std.proofs.lemmas.List.Folds.{list_any-append}
 use Rattle.gw_base.specs.Lang.{◌▹◌}
 use Rattle.gw_engine.specs.declared.datagram.Datagram.{Datagram}
 use Rattle.gw_front.specs.declared.replay_fault.ReplayFault.{ReplayFault}
 use Rattle.gw_front.specs.declared.replay_fault.ReplayFault.TheVariants.{BadHeader, Truncated, TooLong, Read, Write, NoMemory}
-use Rattle.gw_front.specs.Records.{IsRecordHeader, IsRecord, AreRecords, AreOfBurst, IsBurst, IsLastBurst, AreWholeBursts, AreBursts}
+use Rattle.gw_front.specs.Records.{IsRecordHeader, IsRecord, AreRecords, AreOfBurst, IsBurst, IsLastBurst, AreWholeBursts, AreBursts, EndsWithLast}
 use Rattle.gw_front.specs.RecordFaults.{HasNoLineFeed, IsOtherLine, IsLongLine, HasOtherByte, IsTooMuch, IsCutLine, IsCutDatagram, HasFault, IsFirstFault}
 use Rattle.gw_front.proofs.HeaderForms.{cut_once}
-use Rattle.gw_front.proofs.OneReading.{IsHeaded, headed_one, headed_line, header_plain, begins_d, same_fronts, record_headed, record_one, is_no_d, is_no_dot, burst_one}
+use Rattle.gw_front.proofs.OneReading.{IsHeaded, headed_one, headed_line, header_plain, begins_d, same_fronts, record_headed, record_one}
 
 -- ---- first lines
-
-or_true : (a : Bool) → (a || true) ≡ true
-or_true true = refl
-or_true false = refl
 
 -- a text with a line feed has one
 fed : (text line after : List ℕ) → text ≡ line ++ 10 ∷ after → HasNoLineFeed text → ⊥
 fed text line after e none =
-    let there : list_any (λ c. c == 10) (line ++ 10 ∷ after) ≡ true = list_any-append (λ c. c == 10) line (10 ∷ after) ∙ or_true (list_any (λ c. c == 10) line) in
+    let there : list_any (λ c. c == 10) (line ++ 10 ∷ after) ≡ true = list_any-append (λ c. c == 10) line (10 ∷ after) ∙ or-true (list_any (λ c. c == 10) line) in
     let clash : false ≡ true = sym none ∙ ap (λ (l : List ℕ). list_any (λ c. c == 10) l) e ∙ there in
     absurd cc
-
-neither : (a b : Bool) → (a || b) ≡ false → (a ≡ false) × (b ≡ false)
-neither true b h = absurd cc
-neither false b h = (refl, h)
 
 -- a front without a line feed is no longer than the first line
 within_line : (line after front more : List ℕ) → line ++ 10 ∷ after ≡ front ++ more → HasNoLineFeed front → length front ≤ length line
 within_line line after [] more e plain = omega arith
 within_line [] after (b ∷ bs) more e plain =
     let first : 10 ≡ b = cc in
-    let clash = (neither (b == 10) (list_any (λ c. c == 10) bs) plain).0 in
+    let clash = (or_parts (b == 10) (list_any (λ c. c == 10) bs) plain).0 in
     let is : (b == 10) ≡ true = subst (λ (w : ℕ). (w == 10) ≡ true) first refl in
     absurd cc
 within_line (a ∷ line) after (b ∷ bs) more e plain =
     let rest : line ++ 10 ∷ after ≡ bs ++ more = cc in
-    let shorter = within_line line after bs more rest (neither (b == 10) (list_any (λ c. c == 10) bs) plain).1 in
+    let shorter = within_line line after bs more rest (or_parts (b == 10) (list_any (λ c. c == 10) bs) plain).1 in
     omega arith
 
 -- a header is short
@@ -109,15 +103,13 @@ fault_record BadHeader n d text t r room h e (inr (inr o)) =
 fault_record TooLong n d text t r room h e o = not_much n d.peer (length d.bytes) text (d.bytes ++ 10 ∷ r) (record_headed d text t r h e) h.short room o
 fault_record Truncated n d text t r room h e (inl o) = headed_cut text d.peer (length d.bytes) (d.bytes ++ 10 ∷ r) (record_headed d text t r h e) o
 fault_record Truncated n d text t r room h e (inr o) = not_cut n d.peer text d.bytes r 10 (record_headed d text t r h e) o
-fault_record Read n d text t r room h e o = o
-fault_record Write n d text t r room h e o = o
-fault_record NoMemory n d text t r room h e o = o
+fault_record fault n d text t r room h e o = o
 
 headed_nil : (text : List ℕ) (p l : ℕ) (a : List ℕ) → IsHeaded text p l a → text ≡ [] → ⊥
-headed_nil text p l a h none = let b = begins_d text p l a h in is_no_d text b.0 b.1 none
+headed_nil text p l a h none = let b = begins_d text p l a h in let clash : 68 ∷ b.0 ≡ [] = sym b.1 ∙ none in absurd cc
 
 headed_dot : (text : List ℕ) (p l : ℕ) (a more : List ℕ) → IsHeaded text p l a → text ≡ codes ".\n" ++ more → ⊥
-headed_dot text p l a more h dot = let b = begins_d text p l a h in is_no_dot text b.0 more b.1 dot
+headed_dot text p l a more h dot = let b = begins_d text p l a h in let clash : 68 ∷ b.0 ≡ 46 ∷ (10 ∷ more) = sym b.1 ∙ dot in absurd cc
 
 fault_nil : (f : ReplayFault) (n : ℕ) (text : List ℕ) → text ≡ [] → HasFault f n text → ⊥
 fault_nil BadHeader n text none (inl o) = let l = ap length (sym none ∙ o.split) in let m = length-append o.line (10 ∷ o.after) in absurd (omega arith)
@@ -126,9 +118,7 @@ fault_nil BadHeader n text none (inr (inr o)) = headed_nil text o.peer (length o
 fault_nil TooLong n text none o = headed_nil text o.peer o.len o.after (much_headed n text o) none
 fault_nil Truncated n text none (inl o) = let l = ap length none in let k = o.some in absurd (omega arith)
 fault_nil Truncated n text none (inr o) = headed_nil text o.peer o.len o.bytes (cut_headed n text o) none
-fault_nil Read n text none o = o
-fault_nil Write n text none o = o
-fault_nil NoMemory n text none o = o
+fault_nil fault n text none o = o
 
 fault_dot : (f : ReplayFault) (n : ℕ) (text more : List ℕ) → text ≡ codes ".\n" ++ more → HasFault f n text → ⊥
 fault_dot BadHeader n text more dot (inl o) = o.no_end (sym (cut_once 10 (codes ".") more o.line o.after refl o.plain (sym dot ∙ o.split)).0)
@@ -141,9 +131,7 @@ fault_dot BadHeader n text more dot (inr (inr o)) = headed_dot text o.peer (leng
 fault_dot TooLong n text more dot o = headed_dot text o.peer o.len o.after more (much_headed n text o) dot
 fault_dot Truncated n text more dot (inl o) = fed text (codes ".") more dot o.plain
 fault_dot Truncated n text more dot (inr o) = headed_dot text o.peer o.len o.bytes more (cut_headed n text o) dot
-fault_dot Read n text more dot o = o
-fault_dot Write n text more dot o = o
-fault_dot NoMemory n text more dot o = o
+fault_dot fault n text more dot o = o
 
 bad_much : (n : ℕ) (text : List ℕ) → HasFault BadHeader n text → IsTooMuch n text → ⊥
 bad_much n text (inl o) m = headed_other text m.peer m.len m.after (much_headed n text m) o
@@ -172,18 +160,10 @@ one_fault BadHeader Truncated n text h k = absurd (bad_cut n text h k)
 one_fault Truncated BadHeader n text h k = absurd (bad_cut n text k h)
 one_fault TooLong Truncated n text h k = absurd (much_cut n text h k)
 one_fault Truncated TooLong n text h k = absurd (much_cut n text k h)
-one_fault Read g n text h k = absurd h
-one_fault Write g n text h k = absurd h
-one_fault NoMemory g n text h k = absurd h
-one_fault BadHeader Read n text h k = absurd k
-one_fault BadHeader Write n text h k = absurd k
-one_fault BadHeader NoMemory n text h k = absurd k
-one_fault TooLong Read n text h k = absurd k
-one_fault TooLong Write n text h k = absurd k
-one_fault TooLong NoMemory n text h k = absurd k
-one_fault Truncated Read n text h k = absurd k
-one_fault Truncated Write n text h k = absurd k
-one_fault Truncated NoMemory n text h k = absurd k
+one_fault f Read n text h k = absurd k
+one_fault f Write n text h k = absurd k
+one_fault f NoMemory n text h k = absurd k
+one_fault f g n text h k = absurd h
 
 -- ---- the datagrams of a burst, up to what ends it
 
@@ -242,6 +222,17 @@ open_one text a b =
     records_stand 0 a.ds b.ds text a.front a.rest b.front b.rest (few_from _ a.of_burst.few) (few_from _ b.of_burst.few)
     a.of_burst.records a.split (stands_from (length a.ds) a.rest (inl a.halts)) b.of_burst.records b.split (stands_from (length b.ds) b.rest (inl b.halts))
 
+burst_records : (b : List Datagram) (text t r : List ℕ) (h : IsBurst b t) → text ≡ t ++ r → text ≡ h.front ++ (codes ".\n" ++ r)
+burst_records b text t r h e = e ∙ ap (λ (l : List ℕ). l ++ r) (h.split ∙ ap (λ (l : List ℕ). h.front ++ l) h.second) ∙ append_assoc h.front (codes ".\n") r
+
+burst_one : (b c : List Datagram) (text t r u s : List ℕ) → IsBurst b t → text ≡ t ++ r → IsBurst c u → text ≡ u ++ s → (b ≡ c) × (r ≡ s)
+burst_one b c text t r u s h p k q =
+    let one = records_stand 0 b c text h.front (codes ".\n" ++ r) k.front (codes ".\n" ++ s) (few_from _ h.first.few) (few_from _ k.first.few)
+    h.first.records (burst_records b text t r h p) (stands_from (length b) (codes ".\n" ++ r) (inr (r, refl)))
+    k.first.records (burst_records c text u s k q) (stands_from (length c) (codes ".\n" ++ s) (inr (s, refl))) in
+    let tails = one.1 in
+    (one.0, cc)
+
 dot_halts : (n : ℕ) (text more : List ℕ) → text ≡ codes ".\n" ++ more → Halts n text → ⊥
 dot_halts n text more dot (inl none) = let clash : 46 ∷ (10 ∷ more) ≡ [] = sym dot ∙ none in absurd cc
 dot_halts n text more dot (inr f) = fault_dot f.0 n text more dot f.1
@@ -249,9 +240,8 @@ dot_halts n text more dot (inr f) = fault_dot f.0 n text more dot f.1
 -- a burst is not open
 burst_open : (b : List Datagram) (text t r : List ℕ) → IsBurst b t → text ≡ t ++ r → IsOpen text → ⊥
 burst_open b text t r h e o =
-    let whole : text ≡ h.front ++ (codes ".\n" ++ r) = e ∙ ap (λ (l : List ℕ). l ++ r) (h.split ∙ ap (λ (l : List ℕ). h.front ++ l) h.second) ∙ append_assoc h.front (codes ".\n") r in
     let one = records_stand 0 b o.ds text h.front (codes ".\n" ++ r) o.front o.rest (few_from _ h.first.few) (few_from _ o.of_burst.few)
-    h.first.records whole (stands_from (length b) (codes ".\n" ++ r) (inr (r, refl))) o.of_burst.records o.split (stands_from (length o.ds) o.rest (inl o.halts)) in
+    h.first.records (burst_records b text t r h e) (stands_from (length b) (codes ".\n" ++ r) (inr (r, refl))) o.of_burst.records o.split (stands_from (length o.ds) o.rest (inl o.halts)) in
     dot_halts (length o.ds) o.rest r (sym one.1) o.halts
 
 wholes_open : (bs cs : List (List Datagram)) (text t r u s : List ℕ) → AreWholeBursts bs t → text ≡ t ++ r → IsOpen r → AreWholeBursts cs u → text ≡ u ++ s → IsOpen s → (bs ≡ cs) × (r ≡ s)
@@ -286,6 +276,28 @@ first_open : (f : ReplayFault) (text : List ℕ) → IsFirstFault f text → (o 
 first_open f text h o none =
     let one = open_one text (open_fault f text h) o in
     fault_nil f (length h.0) h.1.back (one.1 ∙ none) h.1.second
+
+no_last : (last : List Datagram) → IsLastBurst last [] → ⊥
+no_last [] h = absurd (let some = h.some in omega arith)
+no_last (d ∷ ds) h =
+    let r = h.datagrams.records in
+    headed_nil [] d.peer (length d.bytes) (d.bytes ++ 10 ∷ r.back) (record_headed d [] r.front r.back r.first r.split) refl
+
+no_whole_last : (bursts others : List (List Datagram)) (text : List ℕ) → AreWholeBursts bursts text → EndsWithLast others text → ⊥
+no_whole_last bursts others text h k =
+    let one = wholes_open bursts k.whole text text [] k.form.front k.form.back h (sym (append-nil text)) open_end k.form.first k.form.split (open_last k.last k.form.back k.form.second) in
+    no_last k.last (subst (IsLastBurst k.last) (sym one.1) k.form.second)
+
+pub bursts_one : (bursts others : List (List Datagram)) (text : List ℕ) → AreBursts bursts text → AreBursts others text → bursts ≡ others
+bursts_one bursts others text (inl h) (inl k) =
+    (wholes_open bursts others text text [] text [] h (sym (append-nil text)) open_end k (sym (append-nil text)) open_end).0
+bursts_one bursts others text (inl h) (inr k) = absurd (no_whole_last bursts others text h k)
+bursts_one bursts others text (inr h) (inl k) = absurd (no_whole_last others bursts text k h)
+bursts_one bursts others text (inr h) (inr k) =
+    let at = open_last h.last h.form.back h.form.second in
+    let one = wholes_open h.whole k.whole text h.form.front h.form.back k.form.front k.form.back h.form.first h.form.split at k.form.first k.form.split (open_last k.last k.form.back k.form.second) in
+    let last = (open_one h.form.back at (open_last k.last h.form.back (subst (IsLastBurst k.last) (sym one.1) k.form.second))).0 in
+    h.all ∙ ap₂ (λ (w : List (List Datagram)) (l : List Datagram). w ++ l ∷ []) one.0 last ∙ sym k.all
 
 pub faults_one : (f g : ReplayFault) (bs cs : List (List Datagram)) (text : List ℕ) → (AreWholeBursts bs ▹ IsFirstFault f) text → (AreWholeBursts cs ▹ IsFirstFault g) text → f ≡ g
 faults_one f g bs cs text h k =

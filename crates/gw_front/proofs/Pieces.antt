@@ -1,23 +1,19 @@
 -- Records of a burst, one behind the other, and what is wrong with one.
 use Rattle.std.proofs.Common.{◌≡◌, ◌⊎◌, inl, inr, ℕ, ◌<◌, ◌≤◌, List, [], ◌∷◌, ◌++◌, length, Option, Some, None, IfSome, codes, refl, ap, sym, subst, ◌∙◌, arith, append_assoc, length-append}
-use Rattle.std.specs.Io.KnownBytes.{Consumes, IsAtEnd}
-use Rattle.std.proofs.KnownBytes.{Consumes-nil, Consumes-trans}
+use Rattle.std.specs.Io.KnownBytes.{Consumes}
+use Rattle.std.proofs.KnownBytes.{Consumes-trans}
 use Rattle.std.proofs.lemmas.List.{append-nil}
 use Rattle.gw_engine.specs.declared.datagram.Datagram.{Datagram}
 use Rattle.gw_front.specs.declared.header.Header.{Header}
 use Rattle.gw_front.specs.declared.header.Header.TheVariants as header
 use Rattle.gw_front.specs.declared.replay_fault.ReplayFault.{ReplayFault}
 use Rattle.gw_front.specs.declared.replay_fault.ReplayFault.TheVariants.{BadHeader, Truncated, TooLong, Read, Write, NoMemory}
-use Rattle.gw_front.specs.Headers.{SaysHeader, SaysLine}
-use Rattle.gw_front.specs.Records.{IsHeaderLine, IsRecord, AreRecords, AreOfBurst, IsBurst, IsLastBurst, longest_datagram, most_datagrams}
-use Rattle.gw_front.specs.RecordFaults.{HasNoLineFeed, IsLongLine, IsTaken, IsTooMuch, HasFault, IsFirstFault, longest_line}
-use Rattle.gw_front.specs.Inputs.{IsBadLine, IsBadHeader, IsBadDatagram, IsFaultAt, TakesFrom, Ends}
+use Rattle.gw_front.specs.Headers.{SaysHeader}
+use Rattle.gw_front.specs.Records.{IsHeaderLine, IsRecord, AreRecords, AreOfBurst, IsBurst, longest_datagram, most_datagrams}
+use Rattle.gw_front.specs.RecordFaults.{HasNoLineFeed, IsTaken, IsTooMuch, HasFault, longest_line}
+use Rattle.gw_front.specs.Inputs.{IsBadHeader, IsBadDatagram, IsFaultAt, TakesFrom}
 
 -- ---- one record
-
--- a line that was taken, and what it says
-pub said : (old new : Option (List ℕ)) (line : List ℕ) (h : Header) → Consumes old new (line ++ 10 ∷ []) → SaysHeader h line → TakesFrom (SaysLine h) old new
-said old new line h p says = (line ++ 10 ∷ [], record { front = line; back = 10 ∷ []; split = refl; first = says; second = refl }, p)
 
 -- a line that says nothing
 pub other_line : (old mid : Option (List ℕ)) (line : List ℕ) → Consumes old mid (line ++ 10 ∷ []) → HasNoLineFeed line → length line ≤ longest_line → ((h : Header) → ¬ SaysHeader h line)
@@ -33,37 +29,6 @@ other_line (Some x) (Some y) line p plain short none = inl (record {
   no_end = none header.Stop;
   no_header = λ peer len. none (header.Datagram peer len);
 })
-
-long_line : (old : Option (List ℕ)) → IfSome old IsLongLine → IsBadHeader old BadHeader
-long_line None h = tt
-long_line (Some x) h = inr h
-
--- no line, or one that is too long
-pub bad_line : (fault : ReplayFault) (old : Option (List ℕ)) → IsBadLine old fault → IsBadHeader old fault
-bad_line BadHeader old h = long_line old h
-bad_line Truncated old h = h
-bad_line TooLong old h = absurd h
-bad_line Read old h = tt
-bad_line NoMemory old h = absurd h
-bad_line Write old h = absurd h
-
-other_header : (n : ℕ) (old : Option (List ℕ)) → IsBadHeader old BadHeader → IfSome old (HasFault BadHeader n)
-other_header n None h = tt
-other_header n (Some x) (inl h) = inl h
-other_header n (Some x) (inr h) = inr (inl h)
-
-cut_header : (n : ℕ) (old : Option (List ℕ)) → IsBadHeader old Truncated → IfSome old (HasFault Truncated n)
-cut_header n None h = tt
-cut_header n (Some x) h = inl h
-
--- where a record is to begin
-pub bad_header : (n : ℕ) (fault : ReplayFault) (old : Option (List ℕ)) → IsBadHeader old fault → IsFaultAt (λ f. HasFault f n) old fault
-bad_header n BadHeader old h = other_header n old h
-bad_header n Truncated old h = cut_header n old h
-bad_header n TooLong old h = absurd h
-bad_header n Read old h = tt
-bad_header n NoMemory old h = absurd h
-bad_header n Write old h = absurd h
 
 -- a datagram that is too long, or that its burst has no room for
 pub too_much : (old mid : Option (List ℕ)) (n peer size : ℕ) → TakesFrom (IsHeaderLine peer size) old mid → (longest_datagram < size) ⊎ (n ≡ most_datagrams) → IfSome old (IsTooMuch n)
@@ -117,10 +82,6 @@ whole_record old mid new peer size d t short is all q =
 
 -- ---- a burst
 
--- no datagram yet
-pub none_taken : (a : Option (List ℕ)) → TakesFrom (AreOfBurst []) a a
-none_taken a = ([], record { few = omega arith; records = refl }, Consumes-nil a)
-
 records_more : (ds : List Datagram) (text more : List ℕ) (d : Datagram) → AreRecords ds text → IsRecord d more → AreRecords (ds ++ d ∷ []) (text ++ more)
 records_more [] text more d h r =
     subst (λ (l : List ℕ). AreRecords (d ∷ []) (l ++ more)) (sym h) (record { front = more; back = []; split = sym (append-nil more); first = r; second = refl })
@@ -141,27 +102,3 @@ one_more old mid new ds d p q =
 pub burst_ended : (old mid new : Option (List ℕ)) (ds : List Datagram) → TakesFrom (AreOfBurst ds) old mid → Consumes mid new (codes ".\n") → TakesFrom (IsBurst ds) old new
 burst_ended old mid new ds p q =
     (p.0 ++ codes ".\n", record { front = p.0; back = codes ".\n"; split = refl; first = p.1; second = refl }, Consumes-trans old mid new p.0 (codes ".\n") p.2 q)
-
--- the end of the input, behind a datagram
-pub last_ended : (old mid new : Option (List ℕ)) (ds : List Datagram) → 0 < length ds → TakesFrom (AreOfBurst ds) old mid → Ends mid new → TakesFrom (IsLastBurst ds) old new × IsAtEnd new
-last_ended old mid new ds some p q =
-    ((p.0, record { some = some; datagrams = p.1 }, subst (λ (l : List ℕ). Consumes old new l) (append-nil p.0) (Consumes-trans old mid new p.0 [] p.2 q.0)), q.1)
-
--- the end of the input where a burst is to begin
-pub none_left : (old mid new : Option (List ℕ)) (ds : List Datagram) → length ds ≤ 0 → TakesFrom (AreOfBurst ds) old mid → Ends mid new → Ends old new
-none_left old mid new [] none p q = (subst (λ (l : List ℕ). Consumes old new l) (append-nil p.0 ∙ p.1.records) (Consumes-trans old mid new p.0 [] p.2 q.0), q.1)
-none_left old mid new (d ∷ ds) none p q = absurd (omega arith)
-
-fault_behind : (f : ReplayFault) (old mid : Option (List ℕ)) (ds : List Datagram) → TakesFrom (AreOfBurst ds) old mid → IfSome mid (HasFault f (length ds)) → IfSome old (IsFirstFault f)
-fault_behind f None mid ds p h = tt
-fault_behind f (Some x) None ds p h = absurd p.2
-fault_behind f (Some x) (Some y) ds p h = (ds, record { front = p.0; back = y; split = p.2; first = p.1; second = h })
-
--- what is wrong with the next record is wrong first in the burst
-pub first_fault : (fault : ReplayFault) (old mid : Option (List ℕ)) (ds : List Datagram) → TakesFrom (AreOfBurst ds) old mid → IsFaultAt (λ f. HasFault f (length ds)) mid fault → IsFaultAt IsFirstFault old fault
-first_fault BadHeader old mid ds p h = fault_behind BadHeader old mid ds p h
-first_fault Truncated old mid ds p h = fault_behind Truncated old mid ds p h
-first_fault TooLong old mid ds p h = fault_behind TooLong old mid ds p h
-first_fault Read old mid ds p h = tt
-first_fault NoMemory old mid ds p h = tt
-first_fault Write old mid ds p h = absurd h

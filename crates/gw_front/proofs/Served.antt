@@ -1,6 +1,6 @@
 -- How far serving has come.
 use Rattle.std.proofs.Common.{◌≡◌, ℕ, ◌+◌, ◌-◌, ◌≤◌, ◌<◌, List, [], ◌∷◌, ◌++◌, length, flat_map, refl, arith, length-append, inl, inr, subst, sym, ap, ◌∙◌}
-use Rattle.std.specs.Prelude.{◌≢◌, Option, Some, None, Ok, Err, IfSome, ⊤, false, suc}
+use Rattle.std.specs.Prelude.{◌≢◌, Option, Some, None, Err, IfSome, ⊤, false, suc}
 use Rattle.std.specs.declared.net.socket_addr.SocketAddr.{SocketAddr}
 use Rattle.gw_engine.specs.declared.counts.BurstCounts.{BurstCounts}
 use Rattle.gw_engine.specs.declared.datagram.Datagram.{Datagram}
@@ -15,7 +15,7 @@ use Rattle.gw_front.specs.Serving.{Turn, IsTurn, IsAnswered, IsWithinLimits, Goe
 use Rattle.gw_front.specs.TotalNumbers.{IsFull, no_totals, with_burst, with_dropped}
 use Rattle.gw_front.specs.declared.inbox.Inbox.{Inbox}
 use Rattle.gw_front.specs.declared.serve_fault.ServeFault.{ServeFault}
-use Rattle.gw_front.specs.declared.serve_fault.ServeFault.TheVariants.{Bind, Poll, Receive, NoMemory, Full}
+use Rattle.gw_front.specs.declared.serve_fault.ServeFault.TheVariants.{Full}
 use Rattle.gw_front.specs.declared.serve_options.ServeOptions.{ServeOptions}
 use Rattle.gw_front.specs.declared.server.Server.{Server}
 use Rattle.gw_front.specs.declared.totals.Totals.{Totals}
@@ -38,49 +38,12 @@ pub record IsPartway (options : ServeOptions) (left : Option ℕ) (before now : 
   pub are_left : AreLeft options.bursts (length turns) left
   pub goes_on : ¬ IsFull options.give_up totals
 
-at_start : (most : Option ℕ) → AreLeft most 0 most
-at_start None = tt
-at_start (Some most) = omega arith
-
 -- nothing was dropped yet
 none_dropped : (give_up : Option ℕ) → ¬ IsFull give_up no_totals
 none_dropped None h = h
 none_dropped (Some most) h = omega (arith, h.1)
 
-pub partway_at_start : (options : ServeOptions) (before : Option (List Event)) (gateway : GatewayValue)
-    (totals : Totals) → totals ≡ no_totals → IsPartway options options.bursts before before gateway gateway totals
-partway_at_start options before gateway totals none = record {
-  turns = [];
-  goes = (refl, none);
-  happened = Happens-refl before;
-  are_left = at_start options.bursts;
-  goes_on = subst (λ (t : Totals). ¬ IsFull options.give_up t) (sym none) (none_dropped options.give_up);
-}
-
 -- ---- the end
-
-all_done : (most : Option ℕ) (n : ℕ) → AreLeft most n (Some 0) → most ≡ Some n
-all_done None n h = absurd h
-all_done (Some most) n h = let e : most ≡ n = omega (arith, h) in ap (λ (k : ℕ). Some k) e
-
-pub ended : (options : ServeOptions) (left : Option ℕ) (before after : Option (List Event)) (old new : GatewayValue)
-    (totals executed : Totals) → left ≡ Some 0 → executed ≡ totals → IsPartway options left before after old new totals
-    → Serves options before after old new (Ok executed)
-ended options left before after old new totals executed e same h = record {
-  turns = h.turns;
-  rest = [];
-  totals = totals;
-  goes = h.goes;
-  happened = subst (λ (l : List Event). Happens before after l) (sym (append-nil (flat_map events_of h.turns)))
-      h.happened;
-  end = (
-    all_done options.bursts (length h.turns) (subst (λ (l : Option ℕ). AreLeft options.bursts (length h.turns) l) e
-        h.are_left),
-    same,
-    h.goes_on,
-  );
-  last = refl;
-}
 
 no_more : (most left : Option ℕ) (n : ℕ) → AreLeft most n left → IfSome most (λ m. n ≤ m)
 no_more None left n h = tt
@@ -90,11 +53,8 @@ no_more (Some most) (Some left) n h = omega (arith, h)
 -- a fault for another reason
 for_other : (give_up : Option ℕ) (totals : Totals) (fault : ServeFault) → ¬ IsFull give_up totals → ¬ (fault ≡ Full)
     → IsForDropped give_up totals fault
-for_other give_up totals Bind h other = h
-for_other give_up totals Poll h other = h
-for_other give_up totals Receive h other = h
-for_other give_up totals NoMemory h other = h
 for_other give_up totals Full h other = absurd (other refl)
+for_other give_up totals fault h other = h
 
 pub stopped : (options : ServeOptions) (left : Option ℕ) (before now after : Option (List Event))
     (old new : GatewayValue) (totals : Totals) (i j : Inbox) (fault : ServeFault) → ¬ (fault ≡ Full)
@@ -130,15 +90,6 @@ goes_more options [] turn old middle new before between after (e, f) h = (
 goes_more options (first ∷ later) turn old middle new before between after goes h =
     (goes.0, goes.1, goes.2, goes_more options later turn goes.0 middle new goes.1 between after goes.3 h)
 
-fewer : (most : Option ℕ) (turns : List Turn) (turn : Turn) (left : ℕ) → left ≢ 0
-    → AreLeft most (length turns) (Some left) → AreLeft most (length (turns ++ turn ∷ [])) (Some (left - 1))
-fewer None turns turn left some h = absurd h
-fewer (Some most) turns turn left some h = omega (arith, h, length-append turns (turn ∷ []))
-
-still_none : (most : Option ℕ) (n m : ℕ) → AreLeft most n None → AreLeft most m None
-still_none None n m h = tt
-still_none (Some most) n m h = absurd h
-
 -- what is to come behind a turn of the loop
 pub data IsNext : Option ℕ → Option ℕ → Type 0 where
   endless : IsNext None None
@@ -153,8 +104,10 @@ next_some left next count e f some = rw (e, f) (counted count some)
 
 after_one : (most left next : Option ℕ) (turns : List Turn) (turn : Turn) → IsNext left next
     → AreLeft most (length turns) left → AreLeft most (length (turns ++ turn ∷ [])) next
-after_one most left next turns turn (endless) h = still_none most (length turns) (length (turns ++ turn ∷ [])) h
-after_one most left next turns turn (counted k some) h = fewer most turns turn k some h
+after_one None left next turns turn (endless) h = tt
+after_one (Some most) left next turns turn (endless) h = absurd h
+after_one None left next turns turn (counted k some) h = absurd h
+after_one (Some most) left next turns turn (counted k some) h = omega (arith, h, length-append turns (turn ∷ []))
 
 -- what became of a burst
 abbrev pub IsAnsweredBy : Inbox → (a b : Option (List Event)) → (old new : GatewayValue) → (before after : Totals)
@@ -171,61 +124,11 @@ record IsTurned (options : ServeOptions) (next : Option ℕ) (before after : Opt
   happened : Happens before after (flat_map events_of turns)
   are_left : AreLeft options.bursts (length turns) next
 
-module _ (options : ServeOptions) (left next : Option ℕ) (before now between after : Option (List Event))
-    (old middle new : GatewayValue) (done more : Totals) (i j : Inbox)
-    (h : IsPartway options left before now old middle done) (is_next : IsNext left next) (empty : Holds i [])
-    (gathered : Gathers options.controllers.now now between i j)
-    (some : (packets : List Packet) → Holds j packets → 0 < length packets)
-    (answered : IsAnsweredBy j between after middle new done more) where
-  turned : IsTurned options next before after old new more
-  turned =
-      let came = taken options.controllers.now gathered.packets in
-      let holds : Holds j came = gathered.holds [] empty in
-      let burst = answered came holds in
-      let turn : Turn = record { came = gathered.packets; sent = burst.0 } in
-      let is_turn : IsTurn options turn middle new done more =
-      record { goes_on = h.goes_on; some = some came holds; answered = burst.2 } in
-      record {
-        turns = h.turns ++ turn ∷ [];
-        goes = goes_more options h.turns turn old middle new no_totals done more h.goes is_turn;
-        happened = subst (λ (l : List Event). Happens before after l)
-            (sym (flat_map-append events_of h.turns (turn ∷ [])
-            ∙ ap (λ (l : List Event). flat_map events_of h.turns ++ l) (append-nil (events_of turn))))
-            (Happens-trans before now after _ _ h.happened
-            (Happens-trans now between after _ _ gathered.happened burst.1));
-        are_left = after_one options.bursts left next h.turns turn is_next h.are_left;
-      }
-
-  pub stepped : ¬ IsFull options.give_up more → IsPartway options next before after old new more
-  stepped goes_on = record {
-    turns = turned.turns;
-    goes = turned.goes;
-    happened = turned.happened;
-    are_left = turned.are_left;
-    goes_on = goes_on;
-  }
-
-  -- too many were dropped
-  pub overfull : (fault : ServeFault) → fault ≡ Full → IsFull options.give_up more
-      → Serves options before after old new (Err fault)
-  overfull fault is full = record {
-    turns = turned.turns;
-    rest = [];
-    totals = more;
-    goes = turned.goes;
-    happened = subst (λ (l : List Event). Happens before after l) (sym (append-nil (flat_map events_of turned.turns)))
-        turned.happened;
-    end = (
-      no_more options.bursts next (length turned.turns) turned.are_left,
-      subst (λ (f : ServeFault). IsForDropped options.give_up more f) (sym is) full,
-    );
-    last = tt;
-  }
-
--- the same, by what a server had at the start, before the turn, with its burst and behind it
-module _ (first before_turn with_burst_in_hand behind : Server) (same_options : before_turn.options ≡ first.options)
+-- what a server had at the start, before the turn, with its burst and behind it
+module _ (first behind : Server) (after : Option (List Event)) (new : GatewayValue)
+    {before_turn with_burst_in_hand : Server} {left next : Option ℕ} {before now between : Option (List Event)}
+    {old middle : GatewayValue} (same_options : before_turn.options ≡ first.options)
     (same : HasSame before_turn with_burst_in_hand) (kept : behind.options ≡ with_burst_in_hand.options)
-    (left next : Option ℕ) (before now between after : Option (List Event)) (old middle new : GatewayValue)
     (h : IsPartway first.options left before now old middle before_turn.totals) (is_next : IsNext left next)
     (empty : Holds before_turn.inbox [])
     (gathered : Gathers before_turn.options.controllers.now now between before_turn.inbox with_burst_in_hand.inbox)
@@ -235,29 +138,57 @@ module _ (first before_turn with_burst_in_hand behind : Server) (same_options : 
   all_kept : behind.options ≡ first.options
   all_kept = kept ∙ same.options ∙ same_options
 
-  gathered_for : Gathers first.options.controllers.now now between before_turn.inbox with_burst_in_hand.inbox
-  gathered_for =
+  turned : IsTurned first.options next before after old new behind.totals
+  turned =
+      let options = first.options in
+      let more : Gathers options.controllers.now now between before_turn.inbox with_burst_in_hand.inbox =
       subst (λ (o : ServeOptions). Gathers o.controllers.now now between before_turn.inbox with_burst_in_hand.inbox)
-      same_options gathered
-
-  answered_from : IsAnsweredBy with_burst_in_hand.inbox between after middle new before_turn.totals behind.totals
-  answered_from =
-      subst (λ (t : Totals). IsAnsweredBy with_burst_in_hand.inbox between after middle new t behind.totals) same.totals
-      answered
+      same_options gathered in
+      let came = taken options.controllers.now more.packets in
+      let holds : Holds with_burst_in_hand.inbox came = more.holds [] empty in
+      let burst = subst (λ (t : Totals). IsAnsweredBy with_burst_in_hand.inbox between after middle new t behind.totals)
+      same.totals answered came holds in
+      let turn : Turn = record { came = more.packets; sent = burst.0 } in
+      let is_turn : IsTurn options turn middle new before_turn.totals behind.totals =
+      record { goes_on = h.goes_on; some = some came holds; answered = burst.2 } in
+      record {
+        turns = h.turns ++ turn ∷ [];
+        goes = goes_more options h.turns turn old middle new no_totals before_turn.totals behind.totals h.goes is_turn;
+        happened = subst (λ (l : List Event). Happens before after l)
+            (sym (flat_map-append events_of h.turns (turn ∷ [])
+            ∙ ap (λ (l : List Event). flat_map events_of h.turns ++ l) (append-nil (events_of turn))))
+            (Happens-trans before now after _ _ h.happened
+            (Happens-trans now between after _ _ more.happened burst.1));
+        are_left = after_one options.bursts left next h.turns turn is_next h.are_left;
+      }
 
   pub server_stepped : ¬ IsFull behind.options.give_up behind.totals
       → IsPartway first.options next before after old new behind.totals
-  server_stepped goes_on =
-      stepped first.options left next before now between after old middle new before_turn.totals behind.totals
-      before_turn.inbox with_burst_in_hand.inbox h is_next empty gathered_for some answered_from
-      (subst (λ (o : ServeOptions). ¬ IsFull o.give_up behind.totals) all_kept goes_on)
+  server_stepped goes_on = record {
+    turns = turned.turns;
+    goes = turned.goes;
+    happened = turned.happened;
+    are_left = turned.are_left;
+    goes_on = subst (λ (o : ServeOptions). ¬ IsFull o.give_up behind.totals) all_kept goes_on;
+  }
 
+  -- too many were dropped
   pub server_overfull : (fault : ServeFault) → fault ≡ Full → IsFull behind.options.give_up behind.totals
       → Serves first.options before after old new (Err fault)
-  server_overfull fault is full =
-      overfull first.options left next before now between after old middle new before_turn.totals behind.totals
-      before_turn.inbox with_burst_in_hand.inbox h is_next empty gathered_for some answered_from
-      fault is (subst (λ (o : ServeOptions). IsFull o.give_up behind.totals) all_kept full)
+  server_overfull fault is full = record {
+    turns = turned.turns;
+    rest = [];
+    totals = behind.totals;
+    goes = turned.goes;
+    happened = subst (λ (l : List Event). Happens before after l) (sym (append-nil (flat_map events_of turned.turns)))
+        turned.happened;
+    end = (
+      no_more first.options.bursts next (length turned.turns) turned.are_left,
+      subst (λ (f : ServeFault). IsForDropped first.options.give_up behind.totals f) (sym is)
+          (subst (λ (o : ServeOptions). IsFull o.give_up behind.totals) all_kept full),
+    );
+    last = tt;
+  }
 
 -- ---- one burst
 

@@ -1,15 +1,9 @@
 -- What reads and writes do to the bytes that a reader has left and a writer holds.
 use Rattle.std.proofs.Common.{◌≡◌, ◌==◌, ℕ, ◌+◌, ◌-◌, ◌≤◌, Bool, true, false, if◌then◌else◌, List, ◌++◌, length, take, drop, take-append-drop, Option, None, Some, ap, sym, subst, ◌∙◌, arith, append_assoc}
-use Rattle.std.specs.Io.KnownBytes.{Appends, Keeps, Consumes, prepend_known}
+use Rattle.std.specs.Io.KnownBytes.{Appends, Consumes, prepend_known}
+use Rattle.std.proofs.KnownBytes.{Appends-trans}
 use Rattle.std.proofs.Math.Seq.{take-add}
 use Rattle.std.proofs.lemmas.List.{length-drop, take_rest}
-
--- a read behind one that took nothing
-pub after_kept : (a b c : Option (List ℕ)) (bytes : List ℕ) → Keeps a b → Consumes b c bytes → Consumes a c bytes
-after_kept None b c bytes k p = tt
-after_kept (Some x) None c bytes k p = absurd k
-after_kept (Some x) (Some y) None bytes k p = absurd p
-after_kept (Some x) (Some y) (Some z) bytes k p = sym k ∙ p
 
 at_front : (none : Bool) (inner : Option (List ℕ)) (held : List ℕ) (n : ℕ)
     → Consumes (if none then None else prepend_known held inner) (if none then None else prepend_known (drop n held) inner) (take n held)
@@ -27,11 +21,8 @@ passed capacity same inner kept held left n c k l = rw (c, k, l) (at_front (capa
 
 -- a front, and then a front of the rest
 front_grown : (old mid new : Option (List ℕ)) (n count : ℕ) (text : List ℕ) → Appends old mid (take n text) → Appends mid new (take count (drop n text)) → Appends old new (take (n + count) text)
-front_grown None mid new n count text a b = tt
-front_grown (Some xs) None new n count text a b = absurd a
-front_grown (Some xs) (Some ys) None n count text a b = absurd b
-front_grown (Some xs) (Some ys) (Some zs) n count text a b =
-    b ∙ ap (λ (l : List ℕ). l ++ take count (drop n text)) a ∙ append_assoc xs (take n text) (take count (drop n text)) ∙ ap (λ (l : List ℕ). xs ++ l) (sym (take-add n count text))
+front_grown old mid new n count text a b =
+    subst (λ (l : List ℕ). Appends old new l) (sym (take-add n count text)) (Appends-trans old mid new (take n text) (take count (drop n text)) a b)
 
 -- one write more
 pub turn_done : (old mid new : Option (List ℕ)) (n count : ℕ) (text : List ℕ) → Appends old mid (take n text) × (n ≤ length text) → count ≤ length (take (length text - n) (drop n text))
@@ -39,10 +30,3 @@ pub turn_done : (old mid new : Option (List ℕ)) (n count : ℕ) (text : List �
 turn_done old mid new n count text before bound after =
     let rest : take (length text - n) (drop n text) ≡ drop n text = take_rest text n in
     (front_grown old mid new n count text before.0 (subst (λ (l : List ℕ). Appends mid new (take count l)) rest after), omega (arith, before.1, bound, ap length rest, length-drop n text))
-
--- what stays has the front that it had
-pub front_kept : (old mid new : Option (List ℕ)) (front : List ℕ) → Appends old mid front → Keeps mid new → Appends old new front
-front_kept None mid new front a k = tt
-front_kept (Some xs) None new front a k = absurd a
-front_kept (Some xs) (Some ys) None front a k = absurd k
-front_kept (Some xs) (Some ys) (Some zs) front a k = k ∙ a

@@ -2,6 +2,7 @@
 use Rattle.std.proofs.Common.{◌≡◌, ◌≤◌, ◌<◌, ◌+◌, ◌++◌, map, take, length, get_or, ◌∙◌, ◌&&◌, ◌||◌, ℕ, Bool, arith, cond, true, false, not, List, [], ◌∷◌, Option, Some, None, Result, Ok, Err, IfOk, refl, sym, ap, ap₂, subst, inl, inr, codes, is_some, true≢false, find}
 use Rattle.std.specs.Prelude.{IfSome, IsOkAnd, option_map, unwrap_or, fold}
 use Rattle.std.specs.Borrow.{Bor}
+use Rattle.std.proofs.Math.Bool.{or-false}
 use Rattle.std.proofs.lemmas.Slice.Eq.{bytes_eq-Decides}
 use Rattle.std.specs.Str.{bytes_eq}
 use Rattle.std.specs.Str.Parse.{ParsesUnsigned}
@@ -11,7 +12,7 @@ use Rattle.clap.specs.Faults.{other_fault, step_fault, turn_fault, walk_fault, w
 use Rattle.clap.specs.Kinds.{Kinds, or_else}
 use Rattle.clap.specs.Matches.{ReadsOne, first_value, found_of, matched_of, one_text, raw_values, subcommand_name_of}
 use Rattle.clap.specs.Simple.{App, Shape, app_of, built, entered, label_of, names_of, rows_at, subcommand_of, subcommand_rows_of, with_subcommand}
-use Rattle.clap.specs.Walk.{Held, Names, Outcome, Row, Rule, Step, Text, Waiting, Walk, after_flag, after_step, answers_to, arg_by_index, arg_by_long, bundle, done, idle, long_met, long_or_other, next, nothing_held, one_of, option, plain, plain_word, positional, refused, rows_of, short_or_plain, subcommand, subcommand_met, subcommand_or_other, to_positional, trailing, value, waits, walk, walk_from, walked, walked_from, word_met}
+use Rattle.clap.specs.Walk.{Held, Names, Outcome, Row, Rule, Step, Text, Waiting, Walk, after_flag, after_step, answers_to, arg_by_index, arg_by_long, bundle, done, idle, long_met, long_or_other, next, nothing_held, one_of, option, plain_word, positional, rows_of, short_or_plain, subcommand, subcommand_met, subcommand_or_other, to_positional, trailing, value, waits, walk, walk_from, walked, walked_from, word_met}
 use Rattle.clap.specs.Lexer.{long_of, short_of}
 use Rattle.clap.specs.declared.builder.command.Command.{Command}
 use Rattle.clap.specs.declared.builder.command.Command.TheViews.{out-Command as fields_of}
@@ -130,8 +131,7 @@ flag_step : (c : List Rule) (waiting : Waiting) (word : Text) (h : Held) (outcom
     → IsNoSubcommand (after_flag c waiting word h outcome).1
 flag_step c waiting word h done = tt
 flag_step c waiting word h (waits id) = tt
-flag_step c waiting word h plain = plain_step c waiting word h
-flag_step c waiting word h refused = plain_step c waiting word h
+flag_step c waiting word h outcome = plain_step c waiting word h
 
 short_step : (c : List Rule) (waiting : Waiting) (word : Text) (flags : Option Text) (h : Held)
     → IsNoSubcommand (short_or_plain c waiting word flags h).1
@@ -241,13 +241,9 @@ found_named p words (s ∷ rest) each = go (p s) refl (found_named p words rest 
     go true e h = each.0 e
     go false e h = h
 
-either_true : (b : Bool) → (b || false) ≡ true → b ≡ true
-either_true true e = refl
-either_true false e = e
-
 no_help : (word : Text) → bytes_eq word (codes "help") ≡ false → (bytes_eq (codes "help") word || false) ≡ true → ⊥
 no_help word ok e =
-    let same : codes "help" ≡ word = (bytes_eq-Decides (codes "help") word).0 (either_true _ e) in
+    let same : codes "help" ≡ word = (bytes_eq-Decides (codes "help") word).0 (sym (or-false (bytes_eq (codes "help") word)) ∙ e) in
     true≢false (subst (λ (w : Text). bytes_eq w (codes "help") ≡ false) (sym same) ok)
 
 -- the command that a word names

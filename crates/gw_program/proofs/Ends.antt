@@ -11,7 +11,7 @@ use Rattle.gw_front.specs.Replays.{IsReplay}
 use Rattle.gw_front.specs.declared.counts.Counts.{Counts}
 use Rattle.gw_front.specs.declared.replay_fault.ReplayFault.{ReplayFault}
 use Rattle.gw_front.specs.declared.serve_fault.ServeFault.{ServeFault}
-use Rattle.gw_front.specs.declared.serve_fault.ServeFault.TheVariants.{Bind, Poll, Receive, NoMemory, Full}
+use Rattle.gw_front.specs.declared.serve_fault.ServeFault.TheVariants.{Bind}
 use Rattle.gw_front.specs.declared.serve_options.ServeOptions.{ServeOptions}
 use Rattle.gw_front.specs.declared.totals.Totals.{Totals}
 use Rattle.gw_front.proofs.Served.{not_begun}
@@ -60,9 +60,5 @@ unbound serving options gateway out are = record {
 -- however it ended, where the text is an address
 pub served_at : (listen : List ℕ) (address : SocketAddr) (served : Result Totals ServeFault)
     → IsSocketText listen address → IsServedAt listen served
-served_at listen address (Ok done) is = (address, is)
 served_at listen address (Err Bind) is = tt
-served_at listen address (Err Poll) is = (address, is)
-served_at listen address (Err Receive) is = (address, is)
-served_at listen address (Err NoMemory) is = (address, is)
-served_at listen address (Err Full) is = (address, is)
+served_at listen address served is = (address, is)

@@ -1,7 +1,8 @@
 -- Words of the forms that docs/OPERATIONS.md shows.
-use Rattle.std.proofs.Common.{◌≡◌, ◌∙◌, ℕ, Bool, List, [], ◌∷◌, Option, Some, None, true, false, refl, ap, ap₂, sym, subst, arith, codes, cond, slice_index, nat_eq}
+use Rattle.std.proofs.Common.{◌≡◌, ◌∙◌, ℕ, Bool, List, [], ◌∷◌, Option, Some, None, true, false, refl, ap, sym, subst, codes, cond, nat_eq, true≢false}
 use Rattle.std.specs.Prelude.{option_map}
 use Rattle.std.specs.Str.{bytes_eq}
+use Rattle.std.proofs.lemmas.Slice.Eq.{bytes_eq-Decides}
 use Rattle.clap.proofs.OnLiterals.{clap_on_literals}
 use Rattle.clap.specs.Kinds.{Kinds, or_else}
 use Rattle.clap.specs.Lexer.{strip_byte}
@@ -13,7 +14,7 @@ use Rattle.clap.proofs.ValueTestLemmas.{Accepts-accepts, accepts-Accepts}
 use Rattle.clap.specs.ValueTests.{is_unsigned_in}
 use Rattle.clap.specs.Values.{refused_kind}
 use Rattle.clap.specs.declared.builder.value_parser.ValueParser.TheVariants.{Unsigned}
-use Rattle.gw_program.specs.Forms.{Requests, IsCount, IsWorkerCount, IsPlain, Request, answer, answers, answers_by, check, checks, everywhere, nothing, number_of, plain, replay, replays, replays_and_prints, replays_and_prints_by, replays_by, request_of, serve, serves, serves_at, serves_at_by, serves_at_so_long, serves_by, serves_by_so_long, serves_so_long, Terms}
+use Rattle.gw_program.specs.Forms.{Requests, IsCount, IsWorkerCount, IsPlain, Request, answer, answers, answers_by, check, checks, everywhere, nothing, number_of, plain, built_in, replay, replays, replays_and_prints, replays_and_prints_by, replays_by, request_of, serve, serves, serves_at, serves_at_by, serves_at_so_long, serves_by, serves_by_so_long, serves_so_long, Terms}
 use Rattle.gw_front.specs.Controllers.{IsControllerText}
 use Rattle.gw_front.specs.declared.controllers.Controller.{Controller}
 use Rattle.gw_program.specs.Words.{AreRequested, IsRequested, IsFlag, IsJobOf, IsNumber, controller_texts, given, mistakes}
@@ -105,190 +106,112 @@ number_kinds passes =
 abbrev workers_kinds : Bool → Kinds
 workers_kinds passes = or_else (or_else (or_else (cond passes [] (refused_kind (Unsigned 1 64) ∷ [])) []) []) []
 
-nothing_sound : mistakes [] ≡ []
+-- the words have no mistake, and this is seen of them
+record Reads (words : List Text) (s : Option Seen) : Type 0 where
+  sound : mistakes words ≡ []
+  found : seen (subcommand_of program_app words) ≡ s
+
+both : {words : List Text} {s : Option Seen} → (mistakes words ≡ []) × (seen (subcommand_of program_app words) ≡ s)
+    → Reads words s
+both p = record { sound = p.0; found = p.1 }
+
+-- the same where the last word is a number that passes the test of its argument
+passing : {words : List Text} {s : Option Seen} {passes : Bool} (kinds : Bool → Kinds) → passes ≡ true → kinds true ≡ []
+    → (mistakes words ≡ kinds passes) × (seen (subcommand_of program_app words) ≡ s) → Reads words s
+passing kinds c none p = record { sound = p.0 ∙ ap kinds c ∙ none; found = p.1 }
+
+nothing_reads : Reads [] None
 unfolding clap_on_literals
-nothing_sound = refl
+nothing_reads = both (refl, refl)
 
-nothing_found : seen (subcommand_of program_app []) ≡ None
+answer_reads : Reads (codes "answer" ∷ []) (Some (no_more (codes "answer") []))
 unfolding clap_on_literals
-nothing_found = refl
+answer_reads = both (refl, refl)
 
-answer_sound : mistakes (codes "answer" ∷ []) ≡ []
+config_reads : (f : Text) → IsWord f
+    → Reads (codes "answer" ∷ (codes "--config" ∷ (f ∷ [])))
+    (Some (record (no_more (codes "answer") []) { config = Some f }))
 unfolding clap_on_literals
-answer_sound = refl
+config_reads f w = both (rw (w.plain, w.other) (rw w.plain (refl, refl)))
 
-answer_found : seen (subcommand_of program_app (codes "answer" ∷ [])) ≡ Some (no_more (codes "answer") [])
+check_reads : (f : Text) → IsWord f
+    → Reads (codes "check" ∷ (f ∷ [])) (Some (no_more (codes "check") f))
 unfolding clap_on_literals
-answer_found = refl
+check_reads f w = both (rw (w.plain, w.other) (rw w.plain (refl, refl)))
 
-config_sound : (f : Text) → IsWord f → mistakes (codes "answer" ∷ (codes "--config" ∷ (f ∷ []))) ≡ []
+replay_reads : (f : Text) → IsWord f
+    → Reads (codes "replay" ∷ (f ∷ [])) (Some (replayed f (codes "false") alone))
 unfolding clap_on_literals
-config_sound f w = rw (w.plain, w.other) (rw w.plain refl)
+replay_reads f w = both (rw (w.plain, w.other) (rw w.plain (refl, refl)))
 
-config_found : (f : Text) → IsWord f → seen (subcommand_of program_app
-    (codes "answer" ∷ (codes "--config" ∷ (f ∷ [])))) ≡ Some (record (no_more (codes "answer") []) { config = Some f })
+audit_reads : (f : Text) → IsWord f
+    → Reads (codes "replay" ∷ (f ∷ (codes "--audit" ∷ []))) (Some (replayed f (codes "true") alone))
 unfolding clap_on_literals
-config_found f w = rw (w.plain, w.other) (rw w.plain refl)
+audit_reads f w = both (rw (w.plain, w.other) (rw w.plain (refl, refl)))
 
-check_sound : (f : Text) → IsWord f → mistakes (codes "check" ∷ (f ∷ [])) ≡ []
+workers_reads : (f n : Text) → IsWord f → IsWord n → is_unsigned_in 1 64 n ≡ true
+    → Reads (codes "replay" ∷ (f ∷ (codes "--workers" ∷ (n ∷ [])))) (Some (replayed f (codes "false") n))
 unfolding clap_on_literals
-check_sound f w = rw (w.plain, w.other) (rw w.plain refl)
+workers_reads f n w v c =
+    passing workers_kinds c refl
+    (rw (w.plain, w.other) (rw w.plain (rw (v.plain, v.other) (rw v.plain (refl, refl)))))
 
-check_found : (f : Text) → IsWord f → seen (subcommand_of program_app (codes "check" ∷ (f ∷ []))) ≡ Some
-    (no_more (codes "check") f)
+audit_workers_reads : (f n : Text) → IsWord f → IsWord n → is_unsigned_in 1 64 n ≡ true
+    → Reads (codes "replay" ∷ (f ∷ (codes "--audit" ∷ (codes "--workers" ∷ (n ∷ [])))))
+    (Some (replayed f (codes "true") n))
 unfolding clap_on_literals
-check_found f w = rw (w.plain, w.other) (rw w.plain refl)
+audit_workers_reads f n w v c =
+    passing workers_kinds c refl
+    (rw (w.plain, w.other) (rw w.plain (rw (v.plain, v.other) (rw v.plain (refl, refl)))))
 
-replay_sound : (f : Text) → IsWord f → mistakes (codes "replay" ∷ (f ∷ [])) ≡ []
+serve_reads : (f : Text) → IsWord f
+    → Reads (codes "serve" ∷ (f ∷ [])) (Some (served f everywhere alone None))
 unfolding clap_on_literals
-replay_sound f w = rw (w.plain, w.other) (rw w.plain refl)
+serve_reads f w = both (rw (w.plain, w.other) (rw w.plain (refl, refl)))
 
-replay_found : (f : Text) → IsWord f → seen (subcommand_of program_app (codes "replay" ∷ (f ∷ []))) ≡ Some
-    (replayed f (codes "false") alone)
+listen_reads : (f a : Text) → IsWord f → IsWord a
+    → Reads (codes "serve" ∷ (f ∷ (codes "--listen" ∷ (a ∷ [])))) (Some (served f a alone None))
 unfolding clap_on_literals
-replay_found f w = rw (w.plain, w.other) (rw w.plain refl)
+listen_reads f a w v = both (rw (w.plain, w.other) (rw w.plain (rw (v.plain, v.other) (rw v.plain (refl, refl)))))
 
-audit_sound : (f : Text) → IsWord f → mistakes (codes "replay" ∷ (f ∷ (codes "--audit" ∷ []))) ≡ []
+serve_workers_reads : (f n : Text) → IsWord f → IsWord n → is_unsigned_in 1 64 n ≡ true
+    → Reads (codes "serve" ∷ (f ∷ (codes "--workers" ∷ (n ∷ [])))) (Some (served f everywhere n None))
 unfolding clap_on_literals
-audit_sound f w = rw (w.plain, w.other) (rw w.plain refl)
+serve_workers_reads f n w v c =
+    passing workers_kinds c refl
+    (rw (w.plain, w.other) (rw w.plain (rw (v.plain, v.other) (rw v.plain (refl, refl)))))
 
-audit_found : (f : Text) → IsWord f → seen (subcommand_of program_app
-    (codes "replay" ∷ (f ∷ (codes "--audit" ∷ [])))) ≡ Some (replayed f (codes "true") alone)
+bursts_reads : (f n : Text) → IsWord f → IsWord n → is_unsigned_in 0 18446744073709551615 n ≡ true
+    → Reads (codes "serve" ∷ (f ∷ (codes "--bursts" ∷ (n ∷ [])))) (Some (served f everywhere alone (Some n)))
 unfolding clap_on_literals
-audit_found f w = rw (w.plain, w.other) (rw w.plain refl)
+bursts_reads f n w v c =
+    passing number_kinds c refl
+    (rw (w.plain, w.other) (rw w.plain (rw (v.plain, v.other) (rw v.plain (refl, refl)))))
 
-workers_sound : (f n : Text) → IsWord f → IsWord n → is_unsigned_in 1 64 n ≡ true
-    → mistakes (codes "replay" ∷ (f ∷ (codes "--workers" ∷ (n ∷ [])))) ≡ []
+both_reads : (f a n : Text) → IsWord f → IsWord a → IsWord n → is_unsigned_in 0 18446744073709551615 n ≡ true
+    → Reads (codes "serve" ∷ (f ∷ (codes "--listen" ∷ (a ∷ (codes "--bursts" ∷ (n ∷ []))))))
+    (Some (served f a alone (Some n)))
 unfolding clap_on_literals
-workers_sound f n w v c = rw (w.plain, w.other) (rw w.plain (rw (v.plain, v.other) (rw v.plain (rw c refl))))
+both_reads f a n w v u c =
+    passing number_kinds c refl
+    (rw (w.plain, w.other) (rw w.plain (rw (v.plain, v.other) (rw v.plain (rw (u.plain, u.other) (rw u.plain (refl, refl)))))))
 
-workers_found : (f n : Text) → IsWord f → IsWord n → seen
-    (subcommand_of program_app (codes "replay" ∷ (f ∷ (codes "--workers" ∷ (n ∷ []))))) ≡ Some
-    (replayed f (codes "false") n)
+workers_at_reads : (f a n : Text) → IsWord f → IsWord a → IsWord n → is_unsigned_in 1 64 n ≡ true
+    → Reads (codes "serve" ∷ (f ∷ (codes "--listen" ∷ (a ∷ (codes "--workers" ∷ (n ∷ [])))))) (Some (served f a n None))
 unfolding clap_on_literals
-workers_found f n w v = rw (w.plain, w.other) (rw w.plain (rw (v.plain, v.other) (rw v.plain refl)))
+workers_at_reads f a n w v u c =
+    passing workers_kinds c refl
+    (rw (w.plain, w.other) (rw w.plain (rw (v.plain, v.other) (rw v.plain (rw (u.plain, u.other) (rw u.plain (refl, refl)))))))
 
-audit_workers_kinds : (f n : Text) → IsWord f → IsWord n
-    → mistakes (codes "replay" ∷ (f ∷ (codes "--audit" ∷ (codes "--workers" ∷ (n ∷ []))))) ≡ workers_kinds
-    (is_unsigned_in 1 64 n)
-unfolding clap_on_literals
-audit_workers_kinds f n w v = rw (w.plain, w.other) (rw w.plain (rw (v.plain, v.other) (rw v.plain refl)))
-
-audit_workers_sound : (f n : Text) → IsWord f → IsWord n → is_unsigned_in 1 64 n ≡ true
-    → mistakes (codes "replay" ∷ (f ∷ (codes "--audit" ∷ (codes "--workers" ∷ (n ∷ []))))) ≡ []
-audit_workers_sound f n w v c = audit_workers_kinds f n w v ∙ ap workers_kinds c
-
-audit_workers_found : (f n : Text) → IsWord f → IsWord n
-    → seen (subcommand_of program_app (codes "replay" ∷ (f ∷ (codes
-    "--audit" ∷ (codes "--workers" ∷ (n ∷ [])))))) ≡ Some (replayed f (codes "true") n)
-unfolding clap_on_literals
-audit_workers_found f n w v = rw (w.plain, w.other) (rw w.plain (rw (v.plain, v.other) (rw v.plain refl)))
-
-serve_sound : (f : Text) → IsWord f → mistakes (codes "serve" ∷ (f ∷ [])) ≡ []
-unfolding clap_on_literals
-serve_sound f w = rw (w.plain, w.other) (rw w.plain refl)
-
-serve_found : (f : Text) → IsWord f → seen (subcommand_of program_app (codes "serve" ∷ (f ∷ []))) ≡ Some
-    (served f everywhere alone None)
-unfolding clap_on_literals
-serve_found f w = rw (w.plain, w.other) (rw w.plain refl)
-
-listen_sound : (f a : Text) → IsWord f → IsWord a → mistakes (codes "serve" ∷ (f ∷ (codes "--listen" ∷ (a ∷ [])))) ≡ []
-unfolding clap_on_literals
-listen_sound f a w v = rw (w.plain, w.other) (rw w.plain (rw (v.plain, v.other) (rw v.plain refl)))
-
-listen_found : (f a : Text) → IsWord f → IsWord a
-    → seen (subcommand_of program_app (codes "serve" ∷ (f ∷ (codes "--listen" ∷ (a ∷ []))))) ≡ Some
-    (served f a alone None)
-unfolding clap_on_literals
-listen_found f a w v = rw (w.plain, w.other) (rw w.plain (rw (v.plain, v.other) (rw v.plain refl)))
-
-serve_workers_kinds : (f n : Text) → IsWord f → IsWord n
-    → mistakes (codes "serve" ∷ (f ∷ (codes "--workers" ∷ (n ∷ [])))) ≡ workers_kinds (is_unsigned_in 1 64 n)
-unfolding clap_on_literals
-serve_workers_kinds f n w v = rw (w.plain, w.other) (rw w.plain (rw (v.plain, v.other) (rw v.plain refl)))
-
-serve_workers_sound : (f n : Text) → IsWord f → IsWord n → is_unsigned_in 1 64 n ≡ true
-    → mistakes (codes "serve" ∷ (f ∷ (codes "--workers" ∷ (n ∷ [])))) ≡ []
-serve_workers_sound f n w v c = serve_workers_kinds f n w v ∙ ap workers_kinds c
-
-serve_workers_found : (f n : Text) → IsWord f → IsWord n
-    → seen (subcommand_of program_app (codes "serve" ∷ (f ∷ (codes "--workers" ∷ (n ∷ []))))) ≡ Some
-    (served f everywhere n None)
-unfolding clap_on_literals
-serve_workers_found f n w v = rw (w.plain, w.other) (rw w.plain (rw (v.plain, v.other) (rw v.plain refl)))
-
-bursts_kinds : (f n : Text) → IsWord f → IsWord n
-    → mistakes (codes "serve" ∷ (f ∷ (codes "--bursts" ∷ (n ∷ [])))) ≡ number_kinds
-    (is_unsigned_in 0 18446744073709551615 n)
-unfolding clap_on_literals
-bursts_kinds f n w v = rw (w.plain, w.other) (rw w.plain (rw (v.plain, v.other) (rw v.plain refl)))
-
-bursts_sound : (f n : Text) → IsWord f → IsWord n → is_unsigned_in 0 18446744073709551615 n ≡ true
-    → mistakes (codes "serve" ∷ (f ∷ (codes "--bursts" ∷ (n ∷ [])))) ≡ []
-bursts_sound f n w v c = bursts_kinds f n w v ∙ ap number_kinds c
-
-bursts_found : (f n : Text) → IsWord f → IsWord n
-    → seen (subcommand_of program_app (codes "serve" ∷ (f ∷ (codes "--bursts" ∷ (n ∷ []))))) ≡ Some
-    (served f everywhere alone (Some n))
-unfolding clap_on_literals
-bursts_found f n w v = rw (w.plain, w.other) (rw w.plain (rw (v.plain, v.other) (rw v.plain refl)))
-
-both_kinds : (f a n : Text) → IsWord f → IsWord a → IsWord n
-    → mistakes (codes "serve" ∷ (f ∷ (codes "--listen" ∷ (a ∷ (codes "--bursts" ∷ (n ∷ [])))))) ≡ number_kinds
-    (is_unsigned_in 0 18446744073709551615 n)
-unfolding clap_on_literals
-both_kinds f a n w v u =
-    rw (w.plain, w.other) (rw w.plain (rw (v.plain, v.other) (rw v.plain (rw (u.plain, u.other) (rw u.plain refl)))))
-
-both_sound : (f a n : Text) → IsWord f → IsWord a → IsWord n → is_unsigned_in 0 18446744073709551615 n ≡ true
-    → mistakes (codes "serve" ∷ (f ∷ (codes "--listen" ∷ (a ∷ (codes "--bursts" ∷ (n ∷ [])))))) ≡ []
-both_sound f a n w v u c = both_kinds f a n w v u ∙ ap number_kinds c
-
-both_found : (f a n : Text) → IsWord f → IsWord a → IsWord n
-    → seen (subcommand_of program_app (codes "serve" ∷ (f ∷ (codes
-    "--listen" ∷ (a ∷ (codes "--bursts" ∷ (n ∷ []))))))) ≡ Some (served f a alone (Some n))
-unfolding clap_on_literals
-both_found f a n w v u =
-    rw (w.plain, w.other) (rw w.plain (rw (v.plain, v.other) (rw v.plain (rw (u.plain, u.other) (rw u.plain refl)))))
-
-workers_at_kinds : (f a n : Text) → IsWord f → IsWord a → IsWord n
-    → mistakes (codes "serve" ∷ (f ∷ (codes "--listen" ∷ (a ∷ (codes "--workers" ∷ (n ∷ [])))))) ≡ workers_kinds
-    (is_unsigned_in 1 64 n)
-unfolding clap_on_literals
-workers_at_kinds f a n w v u =
-    rw (w.plain, w.other) (rw w.plain (rw (v.plain, v.other) (rw v.plain (rw (u.plain, u.other) (rw u.plain refl)))))
-
-workers_at_sound : (f a n : Text) → IsWord f → IsWord a → IsWord n → is_unsigned_in 1 64 n ≡ true
-    → mistakes (codes "serve" ∷ (f ∷ (codes "--listen" ∷ (a ∷ (codes "--workers" ∷ (n ∷ [])))))) ≡ []
-workers_at_sound f a n w v u c = workers_at_kinds f a n w v u ∙ ap workers_kinds c
-
-workers_at_found : (f a n : Text) → IsWord f → IsWord a → IsWord n
-    → seen (subcommand_of program_app (codes "serve" ∷ (f ∷ (codes
-    "--listen" ∷ (a ∷ (codes "--workers" ∷ (n ∷ []))))))) ≡ Some (served f a n None)
-unfolding clap_on_literals
-workers_at_found f a n w v u =
-    rw (w.plain, w.other) (rw w.plain (rw (v.plain, v.other) (rw v.plain (rw (u.plain, u.other) (rw u.plain refl)))))
-
-workers_bursts_kinds : (f n b : Text) → IsWord f → IsWord n → is_unsigned_in 1 64 n ≡ true → IsWord b
-    → mistakes (codes "serve" ∷ (f ∷ (codes "--workers" ∷ (n ∷ (codes "--bursts" ∷ (b ∷ [])))))) ≡ number_kinds
-    (is_unsigned_in 0 18446744073709551615 b)
-unfolding clap_on_literals
-workers_bursts_kinds f n b w v c u =
-    rw (w.plain, w.other) (rw w.plain (rw (v.plain, v.other)
-    (rw v.plain (rw c (rw (u.plain, u.other) (rw u.plain refl))))))
-
-workers_bursts_sound : (f n b : Text) → IsWord f → IsWord n → is_unsigned_in 1 64 n ≡ true → IsWord b
+workers_bursts_reads : (f n b : Text) → IsWord f → IsWord n → IsWord b → is_unsigned_in 1 64 n ≡ true
     → is_unsigned_in 0 18446744073709551615 b ≡ true
-    → mistakes (codes "serve" ∷ (f ∷ (codes "--workers" ∷ (n ∷ (codes "--bursts" ∷ (b ∷ [])))))) ≡ []
-workers_bursts_sound f n b w v c u d = workers_bursts_kinds f n b w v c u ∙ ap number_kinds d
-
-workers_bursts_found : (f n b : Text) → IsWord f → IsWord n → IsWord b
-    → seen (subcommand_of program_app (codes "serve" ∷ (f ∷ (codes
-    "--workers" ∷ (n ∷ (codes "--bursts" ∷ (b ∷ []))))))) ≡ Some (served f everywhere n (Some b))
+    → Reads (codes "serve" ∷ (f ∷ (codes "--workers" ∷ (n ∷ (codes "--bursts" ∷ (b ∷ []))))))
+    (Some (served f everywhere n (Some b)))
 unfolding clap_on_literals
-workers_bursts_found f n b w v u =
-    rw (w.plain, w.other) (rw w.plain (rw (v.plain, v.other) (rw v.plain (rw (u.plain, u.other) (rw u.plain refl)))))
+workers_bursts_reads f n b w v u c d =
+    passing number_kinds d refl
+    (rw (w.plain, w.other) (rw w.plain (rw (v.plain, v.other) (rw v.plain (rw c (rw (u.plain, u.other)
+    (rw u.plain (refl, refl))))))))
 
 -- ---- the job of what is seen
 
@@ -311,11 +234,6 @@ IsSeenJob (Some s) (job.Replay file audit workers) =
 IsSeenJob (Some s) (job.Serve serving) = (s.name ≡ codes "serve") × IsSeenServing s serving
 
 by_seen : (found : Option (Text × List Row)) (requested : Job) → IsJobOf found requested → IsSeenJob (seen found) requested
-by_seen None requested h = h
-by_seen (Some p) job.BuiltIn h = h
-by_seen (Some p) (job.Answer file) h = h
-by_seen (Some p) (job.Check file) h = h
-by_seen (Some p) (job.Replay file audit workers) h = h
 by_seen (Some p) (job.Serve serving) (named, h) = (
   named,
   record {
@@ -328,67 +246,66 @@ by_seen (Some p) (job.Serve serving) (named, h) = (
     give_up = h.give_up;
   },
 )
+by_seen None requested h = h
+by_seen (Some p) requested h = h
 
-as_seen : (words : List Text) (requested : Job) (s : Option Seen) → seen (subcommand_of program_app words) ≡ s
-    → IsRequested words requested → IsSeenJob s requested
-as_seen words requested s e h =
-    subst (λ (o : Option Seen). IsSeenJob o requested) e (by_seen (subcommand_of program_app words) requested h.found)
+-- the words have no mistake, and ask for this
+abbrev AskFor : List Text → Request → Type 0
+AskFor words request =
+    (mistakes words ≡ []) × ((requested : Job) → IsRequested words requested → request_of requested ≡ request)
 
--- two names that begin with other letters are two
-apart : (a b : Text) (x y : ℕ) → a ≡ b → slice_index a 0 ≡ x → slice_index b 0 ≡ y → (x ≡ y → ⊥) → ⊥
-apart a b x y same first second other = other (sym first ∙ ap (λ (t : Text). slice_index t 0) same ∙ second)
+by_words : {words : List Text} {s : Option Seen} (request : Request) → Reads words s
+    → ((requested : Job) → IsSeenJob s requested → request_of requested ≡ request) → AskFor words request
+by_words {words} request r is = (
+  r.sound,
+  λ requested h. is requested (subst (λ (o : Option Seen). IsSeenJob o requested) r.found
+      (by_seen (subcommand_of program_app words) requested h.found)),
+)
 
-of_answer : (s : Seen) (requested : Job) → s.name ≡ codes "answer" → IsSeenJob (Some s) requested
+-- a command has one name
+other : {P : Type 0} {name a b : Text} → name ≡ a → name ≡ b → bytes_eq a b ≡ false → P
+other {a = a} {b = b} n m differ = absurd (true≢false (sym ((bytes_eq-Decides a b).1 (sym n ∙ m)) ∙ differ))
+
+of_answer : (s : Seen) → s.name ≡ codes "answer" → (requested : Job) → IsSeenJob (Some s) requested
     → request_of requested ≡ answer s.config
-of_answer s job.BuiltIn n h = absurd h
-of_answer s (job.Answer file) n h = ap answer h.1
-of_answer s (job.Check file) n h = absurd (apart _ _ 97 99 (sym n ∙ h.0) refl refl (λ e. omega (arith, e)))
-of_answer s (job.Replay file audit workers) n h =
-    absurd (apart _ _ 97 114 (sym n ∙ h.0) refl refl (λ e. omega (arith, e)))
-of_answer s (job.Serve serving) n h = absurd (apart _ _ 97 115 (sym n ∙ h.0) refl refl (λ e. omega (arith, e)))
+of_answer s n job.BuiltIn h = absurd h
+of_answer s n (job.Answer file) h = ap answer h.1
+of_answer s n (job.Check file) h = other n h.0 refl
+of_answer s n (job.Replay file audit workers) h = other n h.0 refl
+of_answer s n (job.Serve serving) h = other n h.0 refl
 
-of_check : (s : Seen) (requested : Job) → s.name ≡ codes "check" → IsSeenJob (Some s) requested
+of_check : (s : Seen) → s.name ≡ codes "check" → (requested : Job) → IsSeenJob (Some s) requested
     → request_of requested ≡ check s.file
-of_check s job.BuiltIn n h = absurd h
-of_check s (job.Answer file) n h = absurd (apart _ _ 99 97 (sym n ∙ h.0) refl refl (λ e. omega (arith, e)))
-of_check s (job.Check file) n h = ap check h.1
-of_check s (job.Replay file audit workers) n h =
-    absurd (apart _ _ 99 114 (sym n ∙ h.0) refl refl (λ e. omega (arith, e)))
-of_check s (job.Serve serving) n h = absurd (apart _ _ 99 115 (sym n ∙ h.0) refl refl (λ e. omega (arith, e)))
+of_check s n job.BuiltIn h = absurd h
+of_check s n (job.Check file) h = ap check h.1
+of_check s n (job.Answer file) h = other n h.0 refl
+of_check s n (job.Replay file audit workers) h = other n h.0 refl
+of_check s n (job.Serve serving) h = other n h.0 refl
 
-of_replay : (s : Seen) (requested : Job) (printed : Bool) (worker_count : ℕ) → s.name ≡ codes "replay"
+of_replay : (s : Seen) (printed : Bool) (worker_count : ℕ) → s.name ≡ codes "replay"
     → ((flag : Bool) → IsFlag s.audit flag → flag ≡ printed) → ((n : ℕ) → AreRequested s.workers n → n ≡ worker_count)
-    → IsSeenJob (Some s) requested
-    → request_of requested ≡ replay s.file printed worker_count
-of_replay s job.BuiltIn printed worker_count n flag by h = absurd h
-of_replay s (job.Answer file) printed worker_count n flag by h =
-    absurd (apart _ _ 114 97 (sym n ∙ h.0) refl refl (λ e. omega (arith, e)))
-of_replay s (job.Check file) printed worker_count n flag by h =
-    absurd (apart _ _ 114 99 (sym n ∙ h.0) refl refl (λ e. omega (arith, e)))
-of_replay s (job.Replay file audit workers) printed worker_count n flag by h =
-    ap₂ (λ (f : Text) (r : Bool × ℕ). replay f r.0 r.1) h.1
-    (ap₂ (λ (a : Bool) (b : ℕ). (a, b)) (flag audit h.2) (by workers.count h.3))
-of_replay s (job.Serve serving) printed worker_count n flag by h =
-    absurd (apart _ _ 114 115 (sym n ∙ h.0) refl refl (λ e. omega (arith, e)))
+    → (requested : Job) → IsSeenJob (Some s) requested → request_of requested ≡ replay s.file printed worker_count
+of_replay s printed worker_count n flag by job.BuiltIn h = absurd h
+of_replay s printed worker_count n flag by (job.Answer file) h = other n h.0 refl
+of_replay s printed worker_count n flag by (job.Check file) h = other n h.0 refl
+of_replay s printed worker_count n flag by (job.Replay file audit workers) h =
+    λ i. replay (h.1 i) (flag audit h.2 i) (by workers.count h.3 i)
+of_replay s printed worker_count n flag by (job.Serve serving) h = other n h.0 refl
 
 -- no controllers
 none_named : (controllers : List Controller) → AllZip IsControllerText [] controllers → controllers ≡ []
 none_named [] h = refl
 none_named (c ∷ cs) h = absurd h
 
-of_serve : (s : Seen) (requested : Job) (worker_count : ℕ) (most : Option ℕ) → s.name ≡ codes "serve" → s.controllers ≡ []
+of_serve : (s : Seen) (worker_count : ℕ) (most : Option ℕ) → s.name ≡ codes "serve" → s.controllers ≡ []
     → s.report ≡ None → s.give_up ≡ None → ((n : ℕ) → AreRequested s.workers n → n ≡ worker_count)
-    → ((n : Option ℕ) → IsNumber s.bursts n → n ≡ most)
-    → IsSeenJob (Some s) requested → request_of requested ≡ serve s.file s.listen
-    (record plain { workers = worker_count; bursts = most })
-of_serve s job.BuiltIn worker_count most n no_one no_report no_end by read h = absurd h
-of_serve s (job.Answer file) worker_count most n no_one no_report no_end by read h =
-    absurd (apart _ _ 115 97 (sym n ∙ h.0) refl refl (λ e. omega (arith, e)))
-of_serve s (job.Check file) worker_count most n no_one no_report no_end by read h =
-    absurd (apart _ _ 115 99 (sym n ∙ h.0) refl refl (λ e. omega (arith, e)))
-of_serve s (job.Replay file audit workers) worker_count most n no_one no_report no_end by read h =
-    absurd (apart _ _ 115 114 (sym n ∙ h.0) refl refl (λ e. omega (arith, e)))
-of_serve s (job.Serve serving) worker_count most n no_one no_report no_end by read (named, h) =
+    → ((n : Option ℕ) → IsNumber s.bursts n → n ≡ most) → (requested : Job) → IsSeenJob (Some s) requested
+    → request_of requested ≡ serve s.file s.listen (record plain { workers = worker_count; bursts = most })
+of_serve s worker_count most n no_one no_report no_end by read job.BuiltIn h = absurd h
+of_serve s worker_count most n no_one no_report no_end by read (job.Answer file) h = other n h.0 refl
+of_serve s worker_count most n no_one no_report no_end by read (job.Check file) h = other n h.0 refl
+of_serve s worker_count most n no_one no_report no_end by read (job.Replay file audit workers) h = other n h.0 refl
+of_serve s worker_count most n no_one no_report no_end by read (job.Serve serving) (named, h) =
     let terms : Terms = record {
       workers = serving.workers.count;
       bursts = serving.bursts;
@@ -419,86 +336,47 @@ by_many : (word : Text) → IsWorkerCount word → (n : ℕ) → AreRequested (S
 by_many word worker_count n h = h worker_count
 
 -- each form is without a mistake, and its job is what it asks for
-pub form_requests : (words : List Text) (request : Request) → Requests words request → (mistakes words ≡ [])
-    × ((requested : Job) → IsRequested words requested → request_of requested ≡ request)
-form_requests _ _ nothing = (nothing_sound, λ requested h. ap request_of (as_seen [] requested None nothing_found h))
-form_requests _ _ answers = (
-  answer_sound,
-  λ requested h. of_answer (no_more (codes "answer") []) requested refl
-      (as_seen _ requested (Some (no_more (codes "answer") [])) answer_found h),
-)
-form_requests _ _ (answers_by f p) = (
-  config_sound f (word_of f p),
-  λ requested h. of_answer
-      (record (no_more (codes "answer") []) { config = Some f }) requested refl
-      (as_seen _ requested (Some (record (no_more (codes "answer") []) { config = Some f })) (config_found f (word_of f p))
-      h),
-)
-form_requests _ _ (checks f p) = (
-  check_sound f (word_of f p),
-  λ requested h. of_check (no_more (codes "check") f) requested refl
-      (as_seen _ requested (Some (no_more (codes "check") f)) (check_found f (word_of f p)) h),
-)
-form_requests _ _ (replays f p) = (
-  replay_sound f (word_of f p),
-  λ requested h. of_replay (replayed f (codes "false") alone)
-      requested false 1 refl (λ flag g. g.1 refl) by_one (as_seen _ requested (Some (replayed f (codes "false") alone))
-      (replay_found f (word_of f p)) h),
-)
-form_requests _ _ (replays_and_prints f p) = (
-  audit_sound f (word_of f p),
-  λ requested h. of_replay
-      (replayed f (codes "true") alone) requested true 1 refl (λ flag g. g.0 refl) by_one
-      (as_seen _ requested (Some (replayed f (codes "true") alone)) (audit_found f (word_of f p)) h),
-)
-form_requests _ _ (replays_by f n p q c) = (
-  workers_sound f n (word_of f p) (word_of n q) (worker_counts n c),
-  λ requested h. of_replay (replayed f (codes "false") n) requested false (number_of n) refl (λ flag g. g.1 refl) (by_many n c)
-      (as_seen _ requested (Some (replayed f (codes "false") n)) (workers_found f n (word_of f p) (word_of n q)) h),
-)
-form_requests _ _ (replays_and_prints_by f n p q c) = (
-  audit_workers_sound f n (word_of f p) (word_of n q) (worker_counts n c),
-  λ requested h. of_replay (replayed f (codes "true") n) requested true (number_of n) refl (λ flag g. g.0 refl) (by_many n c)
-      (as_seen _ requested (Some (replayed f (codes "true") n)) (audit_workers_found f n (word_of f p) (word_of n q)) h),
-)
-form_requests _ _ (serves f p) = (
-  serve_sound f (word_of f p),
-  λ requested h. of_serve (served f everywhere alone None) requested 1
-      None refl refl refl refl by_one (λ n g. g) (as_seen _ requested (Some (served f everywhere alone None))
-      (serve_found f (word_of f p)) h),
-)
-form_requests _ _ (serves_at f a p q) = (
-  listen_sound f a (word_of f p) (word_of a q),
-  λ requested h. of_serve
-      (served f a alone None) requested 1 None refl refl refl refl by_one (λ n g. g)
-      (as_seen _ requested (Some (served f a alone None)) (listen_found f a (word_of f p) (word_of a q)) h),
-)
-form_requests _ _ (serves_by f n p q c) = (
-  serve_workers_sound f n (word_of f p) (word_of n q) (worker_counts n c),
-  λ requested h. of_serve (served f everywhere n None) requested (number_of n) None refl refl refl refl (by_many n c) (λ n g. g)
-      (as_seen _ requested (Some (served f everywhere n None)) (serve_workers_found f n (word_of f p) (word_of n q)) h),
-)
-form_requests _ _ (serves_at_by f a n p q r c) = (
-  workers_at_sound f a n (word_of f p) (word_of a q) (word_of n r) (worker_counts n c),
-  λ requested h. of_serve (served f a n None) requested (number_of n) None refl refl refl refl (by_many n c) (λ n g. g)
-      (as_seen _ requested (Some (served f a n None)) (workers_at_found f a n (word_of f p) (word_of a q) (word_of n r)) h),
-)
-form_requests _ _ (serves_so_long f b p r c) = (
-  bursts_sound f b (word_of f p) (word_of b r) (counts b c),
-  λ requested h. of_serve (served f everywhere alone (Some b)) requested 1 (Some (number_of b)) refl refl refl refl by_one
-      (λ n g. read_number b n c g) (as_seen _ requested (Some (served f everywhere alone (Some b)))
-      (bursts_found f b (word_of f p) (word_of b r)) h),
-)
-form_requests _ _ (serves_at_so_long f a b p q r c) = (
-  both_sound f a b (word_of f p) (word_of a q) (word_of b r) (counts b c),
-  λ requested h. of_serve (served f a alone (Some b)) requested 1 (Some (number_of b)) refl refl refl refl by_one
-      (λ n g. read_number b n c g) (as_seen _ requested (Some (served f a alone (Some b)))
-      (both_found f a b (word_of f p) (word_of a q) (word_of b r)) h),
-)
-form_requests _ _ (serves_by_so_long f n b p q c r d) = (
-  workers_bursts_sound f n b (word_of f p) (word_of n q) (worker_counts n c) (word_of b r) (counts b d),
-  λ requested h. of_serve (served f everywhere n (Some b)) requested (number_of n) (Some (number_of b)) refl refl refl refl
-      (by_many n c) (λ m g. read_number b m d g)
-      (as_seen _ requested (Some (served f everywhere n (Some b)))
-      (workers_bursts_found f n b (word_of f p) (word_of n q) (word_of b r)) h),
-)
+pub form_requests : (words : List Text) (request : Request) → Requests words request → AskFor words request
+form_requests _ _ nothing = by_words built_in nothing_reads (λ requested h. ap request_of h)
+form_requests _ _ answers =
+    by_words (answer None) answer_reads (of_answer (no_more (codes "answer") []) refl)
+form_requests _ _ (answers_by f p) =
+    by_words _ (config_reads f (word_of f p)) (of_answer (record (no_more (codes "answer") []) { config = Some f }) refl)
+form_requests _ _ (checks f p) =
+    by_words _ (check_reads f (word_of f p)) (of_check (no_more (codes "check") f) refl)
+form_requests _ _ (replays f p) =
+    by_words _ (replay_reads f (word_of f p))
+    (of_replay (replayed f (codes "false") alone) false 1 refl (λ flag g. g.1 refl) by_one)
+form_requests _ _ (replays_and_prints f p) =
+    by_words _ (audit_reads f (word_of f p))
+    (of_replay (replayed f (codes "true") alone) true 1 refl (λ flag g. g.0 refl) by_one)
+form_requests _ _ (replays_by f n p q c) =
+    by_words _ (workers_reads f n (word_of f p) (word_of n q) (worker_counts n c))
+    (of_replay (replayed f (codes "false") n) false (number_of n) refl (λ flag g. g.1 refl) (by_many n c))
+form_requests _ _ (replays_and_prints_by f n p q c) =
+    by_words _ (audit_workers_reads f n (word_of f p) (word_of n q) (worker_counts n c))
+    (of_replay (replayed f (codes "true") n) true (number_of n) refl (λ flag g. g.0 refl) (by_many n c))
+form_requests _ _ (serves f p) =
+    by_words _ (serve_reads f (word_of f p))
+    (of_serve (served f everywhere alone None) 1 None refl refl refl refl by_one (λ n g. g))
+form_requests _ _ (serves_at f a p q) =
+    by_words _ (listen_reads f a (word_of f p) (word_of a q))
+    (of_serve (served f a alone None) 1 None refl refl refl refl by_one (λ n g. g))
+form_requests _ _ (serves_by f n p q c) =
+    by_words _ (serve_workers_reads f n (word_of f p) (word_of n q) (worker_counts n c))
+    (of_serve (served f everywhere n None) (number_of n) None refl refl refl refl (by_many n c) (λ n g. g))
+form_requests _ _ (serves_at_by f a n p q r c) =
+    by_words _ (workers_at_reads f a n (word_of f p) (word_of a q) (word_of n r) (worker_counts n c))
+    (of_serve (served f a n None) (number_of n) None refl refl refl refl (by_many n c) (λ n g. g))
+form_requests _ _ (serves_so_long f b p r c) =
+    by_words _ (bursts_reads f b (word_of f p) (word_of b r) (counts b c))
+    (of_serve (served f everywhere alone (Some b)) 1 (Some (number_of b)) refl refl refl refl by_one
+    (λ n g. read_number b n c g))
+form_requests _ _ (serves_at_so_long f a b p q r c) =
+    by_words _ (both_reads f a b (word_of f p) (word_of a q) (word_of b r) (counts b c))
+    (of_serve (served f a alone (Some b)) 1 (Some (number_of b)) refl refl refl refl by_one
+    (λ n g. read_number b n c g))
+form_requests _ _ (serves_by_so_long f n b p q c r d) =
+    by_words _ (workers_bursts_reads f n b (word_of f p) (word_of n q) (word_of b r) (worker_counts n c) (counts b d))
+    (of_serve (served f everywhere n (Some b)) (number_of n) (Some (number_of b)) refl refl refl refl (by_many n c)
+    (λ m g. read_number b m d g))

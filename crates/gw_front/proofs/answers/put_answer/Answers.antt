@@ -6,58 +6,34 @@ use Rattle.gw_front.proofs.answers.put_answer.Goals as goal
 
 pub returns-in_err-put_header-clause-front : goal.returns-in_err-put_header-clause-front
 returns-in_err-put_header-clause-front g c =
-    let a = g.W.Write.contents c.args.out.now in
-    let z = g.W.Write.contents c.put_header.new.out in
-    let h = c.args.held.now.items in
-    let p = c.args.answer.now.peer in
-    let b = c.as_slice-bytes.result.now in
+    let out = g.W.Write.contents c.put_header.new.out in
     on_err c.from_residual.result
-    (subst (λ (b : List ℕ). IsFront a h z (header_text p (length b) ++ b ++ codes "\n")) c.as_slice-bytes.ensures
-    (front_before a z h (header_text p (length b) ++ b) (codes "\n")
-    (front_before a z h (header_text p (length b)) b c.in_err-put_header.ensures.front)))
+    (subst (λ (b : List ℕ). IsFront (g.W.Write.contents c.args.out.now) c.args.held.now.items out
+    (header_text c.args.answer.now.peer (length b) ++ b ++ codes "\n")) c.as_slice-bytes.ensures
+    (search (front_before, c.in_err-put_header.ensures.front)))
 
 pub returns-in_err-put-clause-front : goal.returns-in_err-put-clause-front
 returns-in_err-put-clause-front g c =
-    let a = g.W.Write.contents c.args.out.now in
-    let m = g.W.Write.contents c.put_header.new.out in
-    let z = g.W.Write.contents c.put.new.out in
-    let h = c.args.held.now.items in
-    let p = c.args.answer.now.peer in
-    let b = c.as_slice-bytes.result.now in
+    let out = g.W.Write.contents c.put.new.out in
     on_err c.from_residual-in_err-put.result
-    (subst (λ (b : List ℕ). IsFront a h z (header_text p (length b) ++ b ++ codes "\n")) c.as_slice-bytes.ensures
-    (front_before a z h (header_text p (length b) ++ b) (codes "\n")
-    (front_on a m z h c.put_header.new.held.items (header_text p (length b)) b c.in_ok-put_header.ensures.whole c.in_err-put.ensures.front)))
+    (subst (λ (b : List ℕ). IsFront (g.W.Write.contents c.args.out.now) c.args.held.now.items out
+    (header_text c.args.answer.now.peer (length b) ++ b ++ codes "\n")) c.as_slice-bytes.ensures
+    (search (front_before, front_on _ _ c.in_ok-put_header.ensures.whole c.in_err-put.ensures.front)))
 
 pub returns-clause-whole : goal.returns-clause-whole
 returns-clause-whole g c =
-    let a = g.W.Write.contents c.args.out.now in
-    let m = g.W.Write.contents c.put_header.new.out in
-    let n = g.W.Write.contents c.put.new.out in
-    let z = g.W.Write.contents c.put-2.new.out in
-    let h = c.args.held.now.items in
-    let l = c.put-2.new.held.items in
-    let p = c.args.answer.now.peer in
-    let b = c.as_slice-bytes.result.now in
+    let out = g.W.Write.contents c.put-2.new.out in
     ok_mapped c.put-2.result
-    (λ last. subst (λ (b : List ℕ). Moves a h z l (header_text p (length b) ++ b ++ codes "\n")) c.as_slice-bytes.ensures
-    (moves_on a n z h c.put.new.held.items l (header_text p (length b) ++ b) (codes "\n")
-    (moves_on a m n h c.put_header.new.held.items c.put.new.held.items (header_text p (length b)) b c.in_ok-put_header.ensures.whole c.in_ok-put.ensures.whole)
-    last))
+    (λ last. subst (λ (b : List ℕ). Moves (g.W.Write.contents c.args.out.now) c.args.held.now.items out
+    c.put-2.new.held.items (header_text c.args.answer.now.peer (length b) ++ b ++ codes "\n")) c.as_slice-bytes.ensures
+    (moves_on (moves_on c.in_ok-put_header.ensures.whole c.in_ok-put.ensures.whole) last))
     c.put-2.ensures.whole
 
 pub returns-clause-front : goal.returns-clause-front
 returns-clause-front g c =
-    let a = g.W.Write.contents c.args.out.now in
-    let m = g.W.Write.contents c.put_header.new.out in
-    let n = g.W.Write.contents c.put.new.out in
-    let z = g.W.Write.contents c.put-2.new.out in
-    let h = c.args.held.now.items in
-    let p = c.args.answer.now.peer in
-    let b = c.as_slice-bytes.result.now in
+    let out = g.W.Write.contents c.put-2.new.out in
     err_mapped c.put-2.result
-    (λ last. subst (λ (b : List ℕ). IsFront a h z (header_text p (length b) ++ b ++ codes "\n")) c.as_slice-bytes.ensures
-    (front_on a n z h c.put.new.held.items (header_text p (length b) ++ b) (codes "\n")
-    (moves_on a m n h c.put_header.new.held.items c.put.new.held.items (header_text p (length b)) b c.in_ok-put_header.ensures.whole c.in_ok-put.ensures.whole)
-    last))
+    (λ last. subst (λ (b : List ℕ). IsFront (g.W.Write.contents c.args.out.now) c.args.held.now.items out
+    (header_text c.args.answer.now.peer (length b) ++ b ++ codes "\n")) c.as_slice-bytes.ensures
+    (front_on _ _ (moves_on c.in_ok-put_header.ensures.whole c.in_ok-put.ensures.whole) last))
     c.put-2.ensures.front

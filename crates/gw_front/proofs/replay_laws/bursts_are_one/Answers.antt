@@ -1,4 +1,4 @@
-use Rattle.gw_front.proofs.OneReading.{bursts_one}
+use Rattle.gw_front.proofs.OneFault.{bursts_one}
 use Rattle.gw_front.proofs.replay_laws.bursts_are_one.Goals as goal
 
 pub returns : goal.returns

@@ -14,12 +14,8 @@ loop-preserved g c = record {
   partway = subst (λ (t : Totals). IsPartway c.args.server.now.options c.match-left.left
       (g.S.Exchange.course c.args.exchange.now) (g.S.Exchange.course c.answer_burst.new.exchange) c.args.gateway.now
       c.answer_burst.new.gateway t) (sym c.report.ensures.same.totals)
-      (server_stepped c.args.server.now c.loop.server c.next_burst.new.self c.answer_burst.new.self
-      c.loop.invariant.options c.next_burst.ensures.same c.answer_burst.ensures.options
-      c.loop.left c.match-left.left
-      (g.S.Exchange.course c.args.exchange.now) (g.S.Exchange.course c.loop.exchange)
-      (g.S.Exchange.course c.next_burst.new.exchange) (g.S.Exchange.course c.answer_burst.new.exchange)
-      c.args.gateway.now c.loop.gateway c.answer_burst.new.gateway
+      (server_stepped c.args.server.now c.answer_burst.new.self (g.S.Exchange.course c.answer_burst.new.exchange)
+      c.answer_burst.new.gateway c.loop.invariant.options c.next_burst.ensures.same c.answer_burst.ensures.options
       c.loop.invariant.partway
       (elim c.match-left.branch [
         | in-None-left w ↦ next_none c.loop.left c.match-left.left w.in-None-left.is w.left-is
@@ -39,13 +35,9 @@ returns-in_err-answer_burst-clause-served g c =
     let p = err_from_is_err_and c.from_residual-in_err-answer_burst.result
     c.from_residual-in_err-answer_burst.ensures.1 in
     rw (p.1, p.2)
-    (server_overfull c.args.server.now c.loop.server c.next_burst.new.self c.answer_burst.new.self
-    c.loop.invariant.options c.next_burst.ensures.same c.answer_burst.ensures.options
-    c.loop.left c.match-left.left
-    (g.S.Exchange.course c.args.exchange.now) (g.S.Exchange.course c.loop.exchange)
-    (g.S.Exchange.course c.next_burst.new.exchange) (g.S.Exchange.course c.answer_burst.new.exchange)
-    c.args.gateway.now c.loop.gateway c.answer_burst.new.gateway
-    c.loop.invariant.partway
+    (server_overfull c.args.server.now c.answer_burst.new.self (g.S.Exchange.course c.answer_burst.new.exchange)
+    c.answer_burst.new.gateway {next = c.match-left.left} c.loop.invariant.options c.next_burst.ensures.same
+    c.answer_burst.ensures.options c.loop.invariant.partway
     (elim c.match-left.branch [
       | in-None-left w ↦ next_none c.loop.left c.match-left.left w.in-None-left.is w.left-is
       | in-Some-left w ↦ next_some c.loop.left c.match-left.left w.in-Some-left.count w.in-Some-left.is w.left-is

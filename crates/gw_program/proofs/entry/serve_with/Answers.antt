@@ -26,13 +26,7 @@ pub returns-in_err-serve : goal.returns-in_err-serve
 returns-in_err-serve g c =
     let p = err_from_is_err_and c.from_residual.result c.from_residual.ensures.1 in
     rw (p.1, p.2) (record {
-      options = record {
-        workers = c.count.result;
-        bursts = c.args.serving.now.bursts;
-        controllers = c.as_slice.result;
-        report = c.args.serving.now.report;
-        give_up = c.args.serving.now.give_up;
-      };
+      options = _;
       are_options =
           record {
             workers = c.count.ensures.value;
@@ -52,13 +46,7 @@ returns-in_err-serve g c =
 
 pub returns : goal.returns
 returns g c = record {
-  options = record {
-    workers = c.count.result;
-    bursts = c.args.serving.now.bursts;
-    controllers = c.as_slice.result;
-    report = c.args.serving.now.report;
-    give_up = c.args.serving.now.give_up;
-  };
+  options = _;
   are_options =
       record {
         workers = c.count.ensures.value;

@@ -1,5 +1,5 @@
 use Rattle.std.proofs.Common.{◌≡◌}
-use Rattle.gw_program.proofs.Files.{read_up}
+use Rattle.gw_front.proofs.WholeInput.{read_up}
 use Rattle.gw_program.proofs.file.bytes_of.Goals as goal
 
 pub returns : goal.returns

@@ -9,8 +9,7 @@ use Rattle.gw_front.proofs.server.Server.send.Goals as goal
 pub loop-answer-preserved : goal.loop-answer-preserved
 loop-answer-preserved g c = record {
   inbox = c.send_one.ensures.inbox ∙ c.loop-answer.invariant.inbox;
-  same = HasSame-trans c.args.self.now c.loop-answer.self c.send_one.new.self c.loop-answer.invariant.same
-      c.send_one.ensures.same;
+  same = HasSame-trans c.loop-answer.invariant.same c.send_one.ensures.same;
   sent = sent_more (g.S.Exchange.course c.args.exchange.now) (g.S.Exchange.course c.loop-answer.exchange)
       (g.S.Exchange.course c.send_one.new.exchange) c.args.self.now.inbox.senders.items c.args.answers.now
       c.loop-answer.answer-index c.answer-item.result
