@@ -1,5 +1,5 @@
 -- Names from one to the next, and two places whose names are the same.
-use Rattle.std.proofs.Common.{◌≡◌, ℕ, zero, suc, ◌+◌, ◌<◌, Bool, true, false, ◌||◌, List, [], ◌∷◌, length, drop, get_or, refl, sym, ap, ◌∙◌, arith, add-one, drop-cons}
+use Rattle.std.proofs.Common.{◌≡◌, ℕ, zero, suc, ◌+◌, ◌<◌, Bool, true, false, ◌||◌, List, [], ◌∷◌, length, drop, get_or, refl, arith, add-one, drop-cons}
 use Rattle.std.specs.Bool.{Decides}
 use Rattle.std.specs.List.{list_any}
 use Rattle.std.proofs.lemmas.Slice.Eq.{bytes_eq-Decides}
@@ -15,9 +15,7 @@ at_place list i x h = rw (add-one, drop-cons list i x) refl
 -- a test of the names that are left
 pub any_next : (test : List ℕ → Bool) (list : List (Property (List ℕ))) (i : ℕ) (p : Property (List ℕ)) → i < length list → p ≡ get_or list i p
     → list_any test (names_of (drop i list)) ≡ (test p.name || list_any test (names_of (drop (i + 1) list)))
-any_next test list i p h is =
-    ap (λ (l : List (Property (List ℕ))). list_any test (names_of l)) (at_place list i p h)
-    ∙ ap (λ (q : Property (List ℕ)). test q.name || list_any test (names_of (drop (i + 1) list))) (sym is)
+any_next test list i p h is = grind (arith, at_place)
 
 -- ---- two places
 

@@ -1,6 +1,6 @@
 -- The reader of a descriptor reads its form.
-use Rattle.std.proofs.Common.{◌≡◌, ◌⊎◌, inl, inr, ℕ, false, List, [], ◌∷◌, ◌++◌, Option, Some, refl, ap, sym, subst, ◌∙◌}
-use Rattle.gw_base.specs.Lang.{Both, ◌▹◌}
+use Rattle.std.proofs.Common.{◌≡◌, ◌⊎◌, inl, inr, ℕ, false, List, [], ◌++◌, Option, Some, refl, ap, sym, subst, ◌∙◌, arith}
+use Rattle.gw_base.specs.Lang.{Both}
 use Rattle.gw_text.specs.Lexical.{is_safe, is_solid, is_space_start, comma, right_brace, left_brace, left_bracket, equals_sign}
 use Rattle.gw_text.specs.Space.{IsSpace}
 use Rattle.gw_text.specs.Runs.{is_byte, NoMore}
@@ -22,10 +22,10 @@ use Rattle.gw_desc.specs.declared.descriptor.Tail.{Tail}
 use Rattle.gw_text.specs.Parts.{Shrinks}
 use Rattle.gw_desc.specs.Grammar.{Kept, SpellsTail, SpellsMediaPart, SpellsServiceParm, kept_token, is_descriptor, IsOtherWord, IsDropped, SpellsDescriptor}
 use Rattle.gw_desc.specs.Reading.{tail_at, media_part_at, service_parm_at, dropped_at, keep_at, descriptor_rest, descriptor_at, AfterTail, AfterDescriptor}
-use Rattle.gw_desc.proofs.Texts.{first_two, last_two, with_first_part, word_reads, kept_solid, kept_begins}
+use Rattle.gw_desc.proofs.Texts.{first_two, last_two, with_first_part, word_reads, word_shrinks, kept_solid, kept_begins}
 use Rattle.gw_desc.proofs.TailLaws.{tail_reads, tail_ends, tail_other, sign_after_tail}
-use Rattle.gw_desc.proofs.MediaLaws.{braced_ends, media_part_reads, media_part_braces}
-use Rattle.gw_desc.proofs.ServiceLaws.{service_parm_reads, service_parm_braces, AfterServiceParm}
+use Rattle.gw_desc.proofs.MediaLaws.{braced_ends, media_part_reads, media_part_shrinks, media_part_braces}
+use Rattle.gw_desc.proofs.ServiceLaws.{service_parm_reads, service_parm_shrinks, service_parm_braces, AfterServiceParm}
 
 -- ---- what follows another word
 
@@ -137,8 +137,7 @@ rest_reads word (Some token.Services) = services_reads
 rest_reads word _ = other_reads word
 
 audit_ends : (list : List (List ℕ)) (front rest : List ℕ) → BracedOrEmpty (Kept IsWord) list front → NoMore is_safe (front ++ rest)
-audit_ends [] front rest b = both_ends is_safe left_brace _ front rest safe_apart refl b
-audit_ends (w ∷ ws) front rest b = both_ends is_safe left_brace _ front rest safe_apart refl b
+audit_ends list front rest b = grind (arith, both_ends, safe_apart)
 
 rest_ends : (word : List ℕ) (o : Option Token) (d : Descriptor) (front rest : List ℕ) → DescriptorRest word o d front → AfterDescriptor rest → NoMore is_safe (front ++ rest)
 rest_ends word (Some token.Media) d front rest q n = braced_ends is_safe SpellsMediaPart safe_apart refl q.0 front rest q.2
@@ -159,56 +158,34 @@ word_is t word text h e = record { word = h.1; stands = ap token_of (sym h.0) �
 other_word : (word text : List ℕ) → Kept IsWord word text → is_descriptor (token_of word) ≡ false → Kept IsOtherWord word text
 other_word word text h e = (h.0, (h.1, ap (λ (x : List ℕ). is_descriptor (token_of x)) (sym h.0) ∙ e))
 
-abbrev with_word : {P Q R : List ℕ → Type 0} {text : List ℕ} (b : Both P Q text) → R b.front → Both R Q text
-with_word b x = record { front = b.front; back = b.back; split = b.split; first = x; second = b.second }
-
 abbrev WordAndRest : List ℕ → Option Token → Descriptor → List ℕ → Type 0
 WordAndRest word o d text = Both (Kept IsWord word) (DescriptorRest word o d) text
 
 kept_to : (kind : KeptKind) (word : List ℕ) (d : Descriptor) (text : List ℕ) → token_of word ≡ Some (kept_token kind) → Both (Kept IsWord word) (OfKept kind d) text → SpellsDescriptor d text
-kept_to kind word d text e b = subst (λ (x : Descriptor). SpellsDescriptor x text) b.second.1 (with_second (with_word b (word_is (kept_token kind) word b.front b.first e)) b.second.2)
+kept_to kind word d text e b = subst (λ (x : Descriptor). SpellsDescriptor x text) b.second.1 (with_second (with_first_part b (word_is (kept_token kind) word b.front b.first e)) b.second.2)
 
 other_to : (word : List ℕ) (d : Descriptor) (text : List ℕ) → is_descriptor (token_of word) ≡ false → Both (Kept IsWord word) (OfOther word d) text → SpellsDescriptor d text
-other_to word d text e b = subst (λ (x : Descriptor). SpellsDescriptor x text) b.second.1 (with_second (with_word b (other_word word b.front b.first e)) (dropped_to b.second.0 b.back b.second.2))
+other_to word d text e b = subst (λ (x : Descriptor). SpellsDescriptor x text) b.second.1 (with_second (with_first_part b (other_word word b.front b.first e)) (dropped_to b.second.0 b.back b.second.2))
 
 descriptor_to : (word : List ℕ) (o : Option Token) (d : Descriptor) (text : List ℕ) → token_of word ≡ o → WordAndRest word o d text → SpellsDescriptor d text
-descriptor_to word (Some token.Media) d text e b = subst (λ (x : Descriptor). SpellsDescriptor x text) b.second.1 (with_second (with_word b (word_is token.Media word b.front b.first e)) b.second.2)
+descriptor_to word (Some token.Media) d text e b = subst (λ (x : Descriptor). SpellsDescriptor x text) b.second.1 (with_second (with_first_part b (word_is token.Media word b.front b.first e)) b.second.2)
 descriptor_to word (Some token.Events) d text e b = kept_to kept.Events word d text e b
 descriptor_to word (Some token.Signals) d text e b = kept_to kept.Signals word d text e b
 descriptor_to word (Some token.DigitMap) d text e b = kept_to kept.DigitMap word d text e b
 descriptor_to word (Some token.EventBuffer) d text e b = kept_to kept.EventBuffer word d text e b
-descriptor_to word (Some token.Audit) d text e b = subst (λ (x : Descriptor). SpellsDescriptor x text) b.second.1 (with_second (with_word b (word_is token.Audit word b.front b.first e)) b.second.2)
-descriptor_to word (Some token.Services) d text e b = subst (λ (x : Descriptor). SpellsDescriptor x text) b.second.1 (with_second (with_word b (word_is token.Services word b.front b.first e)) b.second.2)
+descriptor_to word (Some token.Audit) d text e b = subst (λ (x : Descriptor). SpellsDescriptor x text) b.second.1 (with_second (with_first_part b (word_is token.Audit word b.front b.first e)) b.second.2)
+descriptor_to word (Some token.Services) d text e b = subst (λ (x : Descriptor). SpellsDescriptor x text) b.second.1 (with_second (with_first_part b (word_is token.Services word b.front b.first e)) b.second.2)
 descriptor_to word _ d text e b = other_to word d text (ap is_descriptor e) b
 
 -- a token, and what is behind it
 token_from : (t : Token) (d : Descriptor) (text : List ℕ) (b : Both (IsToken t) (λ back. (front : List ℕ) → DescriptorRest front (Some t) d back) text) → (word : List ℕ) × WordAndRest word (token_of word) d text
 token_from t d text b = (b.front, record { front = b.front; back = b.back; split = b.split; first = (refl, b.first.word); second = subst (λ (o : Option Token). DescriptorRest b.front o d b.back) (sym b.first.stands) (b.second b.front) })
 
-kept_from : (kind : KeptKind) (t : Tail (List ℕ)) (text : List ℕ) → (IsToken (kept_token kind) ▹ SpellsTail t) text → (word : List ℕ) × WordAndRest word (token_of word) (descriptor.Keep kind t) text
-kept_from kept.Events t text b = token_from token.Events (descriptor.Keep kept.Events t) text (with_second b (λ w. (t, refl, b.second)))
-kept_from kept.Signals t text b = token_from token.Signals (descriptor.Keep kept.Signals t) text (with_second b (λ w. (t, refl, b.second)))
-kept_from kept.DigitMap t text b = token_from token.DigitMap (descriptor.Keep kept.DigitMap t) text (with_second b (λ w. (t, refl, b.second)))
-kept_from kept.EventBuffer t text b = token_from token.EventBuffer (descriptor.Keep kept.EventBuffer t) text (with_second b (λ w. (t, refl, b.second)))
-
 other_rest : (word : List ℕ) (o : Option Token) (text : List ℕ) → is_descriptor o ≡ false → ((t : Tail (List ℕ)) × Dropped t text) → DescriptorRest word o (descriptor.Other word) text
-other_rest word (Some token.Media) text e s = absurd cc
-other_rest word (Some token.Events) text e s = absurd cc
-other_rest word (Some token.Signals) text e s = absurd cc
-other_rest word (Some token.DigitMap) text e s = absurd cc
-other_rest word (Some token.EventBuffer) text e s = absurd cc
-other_rest word (Some token.Audit) text e s = absurd cc
-other_rest word (Some token.Services) text e s = absurd cc
-other_rest word _ text e s = (s.0, refl, s.1)
+other_rest word o text e s = grind arith
 
 descriptor_from : (d : Descriptor) (text : List ℕ) → SpellsDescriptor d text → (word : List ℕ) × WordAndRest word (token_of word) d text
-descriptor_from (descriptor.Media list) text b = token_from token.Media (descriptor.Media list) text (with_second b (λ w. (list, refl, b.second)))
-descriptor_from (descriptor.Keep kind t) text b = kept_from kind t text b
-descriptor_from (descriptor.Audit list) text b = token_from token.Audit (descriptor.Audit list) text (with_second b (λ w. (list, refl, b.second)))
-descriptor_from (descriptor.Services list) text b = token_from token.Services (descriptor.Services list) text (with_second b (λ w. (list, refl, b.second)))
-descriptor_from (descriptor.Other word) text b =
-    let not_one = ap (λ (x : List ℕ). is_descriptor (token_of x)) b.first.0 ∙ b.first.1.1 in
-    (word, with_second (with_word b (b.first.0, b.first.1.0)) (other_rest word (token_of word) b.back not_one (dropped_from b.back b.second)))
+descriptor_from d text b = grind (arith, dropped_from, token_from, other_rest, with_first_part, with_second)
 
 pub descriptor_reads : ReadsUp descriptor_at SpellsDescriptor AfterDescriptor Same UpTo
 unfolding descriptor_at
@@ -220,15 +197,15 @@ descriptor_reads =
 pub descriptor_shrinks : Shrinks descriptor_at
 descriptor_shrinks = up_shrinks descriptor_reads
 
+-- no part of a list in a descriptor gives back bytes that it took
+pub ruleset parts_shrink = (media_part_shrinks, word_shrinks, service_parm_shrinks)
+
 descriptor_solid : BeginsWith is_solid SpellsDescriptor
 descriptor_solid d text h = let s = descriptor_from d text h in both_begins is_solid (Kept IsWord s.0) (DescriptorRest s.0 (token_of s.0) d) (kept_solid s.0) text s.1
 
 -- a sign of another kind may follow a descriptor
 pub sign_after : (b : ℕ) → is_space_start b ≡ false → is_safe b ≡ false → is_byte equals_sign b ≡ false → is_byte left_brace b ≡ false → is_byte left_bracket b ≡ false → (front more : List ℕ) → IsSign b front → AfterDescriptor (front ++ more)
-sign_after b solid safe equals brace bracket front more h = record {
-  tail = sign_after_tail b solid safe equals brace front more h;
-  bracket = sign_other b left_bracket front more solid bracket h;
-}
+sign_after b solid safe equals brace bracket front more h = grind (arith, sign_after_tail, sign_other)
 
 pub descriptor_braces : BracesUp SpellsDescriptor AfterDescriptor
 descriptor_braces = record {

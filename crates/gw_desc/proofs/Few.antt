@@ -1,6 +1,6 @@
 -- What stands twice is not in a list of one.
 use Rattle.std.proofs.Common.{◌≡◌, ◌<◌, ◌==◌, ◌||◌, cond, Bool, true, false, List, [], ◌∷◌, ◌++◌, length, refl, ap, ◌∙◌, arith}
-use Rattle.std.specs.List.{count_by, list_any}
+use Rattle.std.specs.List.{list_any}
 use Rattle.std.proofs.lemmas.Bool.Decides.{nat_tests}
 use Rattle.std.proofs.lemmas.List.{append-nil}
 use Rattle.std.proofs.lemmas.List.Sums.{count_by-le-length}
@@ -12,14 +12,11 @@ use Rattle.gw_desc.specs.Checks.{first_stream, has_part_twice, is_state, is_stre
 use Rattle.gw_desc.specs.Twice.{has_two, has_number_twice}
 
 pub none_of_one : {T : Type 0} (is_so : T → Bool) (list : List T) → length list < 2 → has_two is_so list ≡ false
-none_of_one is_so list h =
-    let few : count_by is_so list < 2 = omega (arith, count_by-le-length is_so list) in
-    grind (arith, nat_tests, few)
+none_of_one is_so list h = grind (arith, count_by-le-length, nat_tests)
 
 -- once more the same
 again : (b : Bool) → ((b || false) || b) ≡ (b || false)
-again true = refl
-again false = refl
+again b = grind arith
 
 of_stream : (t : Bool) (own : List StreamPart) → ((has_part_twice own || false) || has_part_twice (cond t own [] ++ [])) ≡ (has_part_twice own || false)
 unfolding has_part_twice

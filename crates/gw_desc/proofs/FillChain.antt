@@ -1,8 +1,8 @@
 -- A Local is filled one `$` after the other.
-use Rattle.std.proofs.Common.{◌≡◌, ◌⊎◌, inl, inr, ℕ, zero, suc, ◌==◌, Bool, true, false, ◌||◌, List, [], ◌∷◌, ◌++◌, length, map, codes, decimal, refl, ap, sym, ◌∙◌, subst, append_assoc, append-nil, arith}
-use Rattle.std.specs.List.{AllByRecursion, list_any, filter, slice_split, onto_first, starts_with}
+use Rattle.std.proofs.Common.{◌≡◌, ◌⊎◌, inl, inr, ℕ, zero, suc, ◌==◌, Bool, true, false, List, [], ◌∷◌, ◌++◌, length, map, codes, decimal, refl, ap, sym, ◌∙◌, subst, append_assoc, append-nil, arith}
+use Rattle.std.specs.List.{AllByRecursion, list_any, filter, slice_split, starts_with}
 use Rattle.std.specs.Prelude.{slice_index_or, slice_set}
-use Rattle.std.proofs.lemmas.Bool.{and_parts}
+use Rattle.std.proofs.lemmas.Bool.{or_parts}
 use Rattle.std.proofs.lemmas.List.Splits.{length-slice_split}
 use Rattle.std.proofs.lemmas.List.Sums.{length-filter}
 use Rattle.std.proofs.lemmas.Slice.Eq.{bytes_eq-Decides}
@@ -20,21 +20,15 @@ IsClean p part = list_any p part ≡ false
 abbrev pub AreEnds : (ℕ → Bool) → List ℕ → Type 0
 AreEnds p ends = AllByRecursion (λ e. p e ≡ true) ends
 
-clean_onto : (p : ℕ → Bool) (b : ℕ) (parts : List (List ℕ)) → p b ≡ false → AllByRecursion (IsClean p) parts → AllByRecursion (IsClean p) (onto_first b parts)
-clean_onto p b [] other h = (rw other refl, tt)
-clean_onto p b (part ∷ parts) other h = let none = h.0 in (rw (other, none) refl, h.1)
-
 clean_by : (p : ℕ → Bool) (b : ℕ) (bs : List ℕ) (t : Bool) → p b ≡ t → AllByRecursion (IsClean p) (slice_split p bs) → AllByRecursion (IsClean p) (slice_split p (b ∷ bs))
-clean_by p b bs true e h = rw e (refl, h)
-clean_by p b bs false e h = rw e (clean_onto p b (slice_split p bs) e h)
+clean_by p b bs t e h = grind arith
 
 pub parts_clean : (p : ℕ → Bool) (text : List ℕ) → AllByRecursion (IsClean p) (slice_split p text)
 parts_clean p [] = (refl, tt)
 parts_clean p (b ∷ bs) = clean_by p b bs (p b) refl (parts_clean p bs)
 
 ends_by : (p : ℕ → Bool) (b : ℕ) (bs : List ℕ) (t : Bool) → p b ≡ t → AreEnds p (filter p bs) → AreEnds p (filter p (b ∷ bs))
-ends_by p b bs true e h = rw e (e, h)
-ends_by p b bs false e h = rw e h
+ends_by p b bs t e h = grind arith
 
 pub ends_are : (p : ℕ → Bool) (text : List ℕ) → AreEnds p (filter p text)
 ends_are p [] = tt
@@ -92,14 +86,8 @@ clean_front : (p : ℕ → Bool) (front back : List ℕ) → list_any p (front +
 clean_front p [] back h = refl
 clean_front p (b ∷ bs) back h = let n = none_passes p b (bs ++ back) h in let first = n.0 in let rest = clean_front p bs back n.1 in rw (first, rest) refl
 
-or_true : (a : Bool) → a || true ≡ true
-or_true true = refl
-or_true false = refl
-
 ends_field : (behind : List ℕ) → (behind ≡ []) ⊎ (begins (is_one_of field_ends) behind ≡ true) → (behind ≡ []) ⊎ (begins is_field_end behind ≡ true)
-ends_field behind (inl none) = inl none
-ends_field [] (inr some) = inl refl
-ends_field (b ∷ bs) (inr some) = inr (ap (λ (t : Bool). is_one_of line_ends b || t) some ∙ or_true (is_one_of line_ends b))
+ends_field behind h = grind arith
 
 -- a line in which it stands
 pub line_put : (is_kind : List ℕ → Bool) (place : ℕ) (new line : List ℕ) → list_any (is_one_of line_ends) line ≡ false → is_kind line ≡ true → has_choose place line ≡ true → IsPut is_kind place new line (with_field place new line)
@@ -147,36 +135,11 @@ put_behind is_kind place new front old text w s = record {
 abbrev IsByFront : (List ℕ → Bool) → Type 0
 IsByFront is_kind = (text more : List ℕ) → is_kind text ≡ true → is_kind (text ++ more) ≡ true
 
-four : (lines fields new behind rest : List ℕ) → (lines ++ (fields ++ (new ++ behind))) ++ rest ≡ lines ++ (fields ++ (new ++ (behind ++ rest)))
-four lines fields new behind rest =
-    append_assoc lines (fields ++ (new ++ behind)) rest
-    ∙ ap (λ (x : List ℕ). lines ++ x) (append_assoc fields (new ++ behind) rest ∙ ap (λ (x : List ℕ). fields ++ x) (append_assoc new behind rest))
-
-whole_on : (behind rest : List ℕ) → begins (is_one_of line_ends) rest ≡ true → (behind ≡ []) ⊎ (begins is_field_end behind ≡ true) → (behind ++ rest ≡ []) ⊎ (begins is_field_end (behind ++ rest) ≡ true)
-whole_on [] [] h w = inl refl
-whole_on [] (c ∷ cs) h w = inr (ap (λ (t : Bool). t || is_one_of field_ends c) h)
-whole_on (b ∷ bs) rest h (inl none) = absurd cc
-whole_on (b ∷ bs) rest h (inr some) = inr some
-
 put_before : (is_kind : List ℕ → Bool) (place : ℕ) (new old text rest : List ℕ) → IsByFront is_kind → begins (is_one_of line_ends) rest ≡ true → IsPut is_kind place new old text → IsPut is_kind place new (old ++ rest) (text ++ rest)
-put_before is_kind place new old text rest by_front ends s = record {
-  lines = s.lines;
-  fields = s.fields;
-  behind = s.behind ++ rest;
-  was = ap (λ (x : List ℕ). x ++ rest) s.was ∙ four s.lines s.fields (codes "$") s.behind rest;
-  is = ap (λ (x : List ℕ). x ++ rest) s.is ∙ four s.lines s.fields new s.behind rest;
-  whole_lines = s.whole_lines;
-  one_line = s.one_line;
-  kind = ap is_kind (sym (append_assoc s.fields (codes "$" ++ s.behind) rest)) ∙ by_front (s.fields ++ (codes "$" ++ s.behind)) rest s.kind;
-  whole_fields = s.whole_fields;
-  counted = s.counted;
-  whole = whole_on s.behind rest ends s.whole;
-}
+put_before is_kind place new old text rest by_front ends s = grind (arith, append_assoc)
 
 two_bytes : (a b : ℕ) (text more : List ℕ) → starts_with (λ x y. x == y) text (a ∷ (b ∷ [])) ≡ true → starts_with (λ x y. x == y) (text ++ more) (a ∷ (b ∷ [])) ≡ true
-two_bytes a b [] more h = absurd cc
-two_bytes a b (x ∷ []) more h = absurd (let second : false ≡ true = (and_parts (a == x) false h).1 in cc)
-two_bytes a b (x ∷ (y ∷ ys)) more h = h
+two_bytes a b text more h = grind arith
 
 connection_by_front : IsByFront is_connection
 connection_by_front text more h = two_bytes 99 61 text more h
@@ -215,12 +178,10 @@ line_reached : (address port line : List ℕ) → list_any (is_one_of line_ends)
 line_reached address port line one = line_by address port line one (is_connection line) (is_media_line line) refl refl
 
 step_before : (address port rest old text : List ℕ) → begins (is_one_of line_ends) rest ≡ true → IsFilledOnce address port old text → IsFilledOnce address port (old ++ rest) (text ++ rest)
-step_before address port rest old text ends (inl s) = inl (put_before is_connection 2 address old text rest connection_by_front ends s)
-step_before address port rest old text ends (inr s) = inr (put_before is_media_line 1 port old text rest media_by_front ends s)
+step_before address port rest old text ends h = grind (arith, put_before, connection_by_front, media_by_front)
 
 step_behind : (address port front old text : List ℕ) → IsWhole line_ends front → IsFilledOnce address port old text → IsFilledOnce address port (front ++ old) (front ++ text)
-step_behind address port front old text w (inl s) = inl (put_behind is_connection 2 address front old text w s)
-step_behind address port front old text w (inr s) = inr (put_behind is_media_line 1 port front old text w s)
+step_behind address port front old text w h = grind (arith, put_behind)
 
 -- ---- lines
 
@@ -251,20 +212,12 @@ filled_reached address port text =
 
 line_same : (address port line : List ℕ) → (c m : Bool) → is_connection line ≡ c → is_media_line line ≡ m → (t u : Bool) → has_choose 2 line ≡ t → has_choose 1 line ≡ u → is_fillable_line line ≡ false → filled_line address port line ≡ line
 unfolding filled_line is_fillable_line put
-line_same address port line true m is other true u x y none = absurd (let clash : true ≡ false = rw (is, x) at none in cc)
-line_same address port line true m is other false u x y none = rw (is, x) refl
-line_same address port line false true is other t true x y none = absurd (let clash : true ≡ false = rw (is, other, y) at none in cc)
-line_same address port line false true is other t false x y none = rw (is, other, y) refl
-line_same address port line false false is other t u x y none = rw (is, other) refl
-
-neither : (s t : Bool) → s || t ≡ false → (s ≡ false) × (t ≡ false)
-neither true t h = absurd cc
-neither false t h = (refl, h)
+line_same address port line c m is other t u x y none = grind arith
 
 lines_same : (address port : List ℕ) (lines : List (List ℕ)) → list_any is_fillable_line lines ≡ false → map (filled_line address port) lines ≡ lines
 lines_same address port [] h = refl
 lines_same address port (line ∷ lines) h =
-    let n = neither (is_fillable_line line) (list_any is_fillable_line lines) h in
+    let n = or_parts (is_fillable_line line) (list_any is_fillable_line lines) h in
     let same = line_same address port line (is_connection line) (is_media_line line) refl refl (has_choose 2 line) (has_choose 1 line) refl refl n.0 in
     let rest = lines_same address port lines n.1 in
     rw (same, rest) refl

@@ -1,13 +1,13 @@
 -- In a filled Local no `$` is left to fill.
-use Rattle.std.proofs.Common.{◌≡◌, inl, inr, ℕ, zero, suc, ◌≤◌, ◌==◌, Bool, true, false, ◌||◌, ◌&&◌, List, [], ◌∷◌, ◌++◌, length, map, codes, decimal, bytes_eq, refl, ap, sym, ◌∙◌, arith}
+use Rattle.std.proofs.Common.{◌≡◌, ℕ, zero, suc, ◌≤◌, ◌==◌, Bool, true, false, List, [], ◌∷◌, ◌++◌, length, map, codes, decimal, bytes_eq, refl, ap, sym, ◌∙◌, arith}
 use Rattle.std.specs.List.{AllByRecursion, list_any, list_all, slice_split, starts_with}
 use Rattle.std.specs.Prelude.{slice_index_or, slice_set}
-use Rattle.std.proofs.lemmas.Bool.{and_parts, eqb-true}
+use Rattle.std.proofs.lemmas.Bool.{and_parts, eqb-true, or_parts, false_from_ne_true, or_from}
 use Rattle.std.proofs.lemmas.List.Sums.{length-filter, count_by-le-length}
 use Rattle.std.proofs.lemmas.List.Folds.{list_any-append}
 use Rattle.std.proofs.lemmas.Slice.Eq.{bytes_eq-Decides}
 use Rattle.gw_base.specs.Bytes.{is_one_of, is_digit}
-use Rattle.gw_desc.specs.Fill.{line_ends, field_ends, ends_of, lines_of, fields_of, interleaved, has_choose, with_field, put, is_connection, is_media_line, filled_line, is_fillable_line, filled_text, filled, is_fillable, port_of}
+use Rattle.gw_desc.specs.Fill.{line_ends, field_ends, ends_of, interleaved, has_choose, with_field, put, is_connection, is_media_line, filled_line, is_fillable_line, filled_text, filled, is_fillable, port_of}
 use Rattle.gw_desc.specs.FillSteps.{IsWhole}
 use Rattle.gw_base.specs.Addresses.{IsAddress, is_address_byte}
 use Rattle.gw_desc.proofs.Fills.{parts_next, parts_last}
@@ -45,10 +45,6 @@ record IsInert (new : List ℕ) : Type 0 where
   no_field : list_any (is_one_of field_ends) new ≡ false
   no_line : list_any (is_one_of line_ends) new ≡ false
 
-not_true : (t : Bool) → (t ≡ true → ⊥) → t ≡ false
-not_true true h = absurd (h refl)
-not_true false h = refl
-
 -- bytes of one class are of no other that has none of it
 none_of : (p q : ℕ → Bool) → ((b : ℕ) → p b ≡ true → q b ≡ false) → (text : List ℕ) → list_all p text ≡ true → list_any q text ≡ false
 none_of p q apart [] all = refl
@@ -59,18 +55,10 @@ none_of p q apart (b ∷ bs) all =
     rw (here, rest) refl
 
 other_byte : (p : ℕ → Bool) (c b : ℕ) → p c ≡ false → p b ≡ true → c == b ≡ false
-other_byte p c b none is = not_true (c == b) (λ e. let same : c ≡ b = eqb-true c b e in let clash : true ≡ false = sym is ∙ ap p (sym same) ∙ none in absurd cc)
+other_byte p c b none is = false_from_ne_true (c == b) (λ e. let same : c ≡ b = eqb-true c b e in let clash : true ≡ false = sym is ∙ ap p (sym same) ∙ none in absurd cc)
 
 inert : (p : ℕ → Bool) (new : List ℕ) → p 36 ≡ false → p 32 ≡ false → p 13 ≡ false → p 10 ≡ false → list_all p new ≡ true → IsInert new
-inert p new choose space cr lf all = record {
-  no_choose = not_true (bytes_eq new (codes "$")) (λ e.
-      let is : new ≡ codes "$" = (bytes_eq-Decides new (codes "$")).0 e in
-      let one : list_all p (codes "$") ≡ true = ap (list_all p) (sym is) ∙ all in
-      let clash : true ≡ false = sym ((and_parts (p 36) true one).0) ∙ choose in
-      absurd cc);
-  no_field = none_of p (is_one_of field_ends) (λ b is. let a = other_byte p 32 b space is in rw a refl) new all;
-  no_line = none_of p (is_one_of line_ends) (λ b is. let a = other_byte p 13 b cr is in let c = other_byte p 10 b lf is in rw (a, c) refl) new all;
-}
+inert p new choose space cr lf all = grind (arith, none_of, other_byte, and_parts, bytes_eq-Decides, false_from_ne_true)
 
 address_inert : (address : List ℕ) → IsAddress address → IsInert address
 address_inert address h = inert is_address_byte address refl refl refl refl h.each
@@ -83,38 +71,14 @@ decimal_inert n = inert is_digit (decimal n) refl refl refl refl (decimal_run n)
 -- behind a `$` that was put the field is no `$`
 no_choose_left : (place : ℕ) (new line : List ℕ) → IsInert new → has_choose place line ≡ true → has_choose place (with_field place new line) ≡ false
 unfolding has_choose
-no_choose_left place new line h choose =
-    let p : ℕ → Bool = is_one_of field_ends in
-    let parts : List (List ℕ) = slice_set (fields_of line) place new in
-    let same : length parts ≡ suc (length (ends_of field_ends line)) = length_set place new (fields_of line) ∙ one_more p line in
-    let read : fields_of (interleaved parts (ends_of field_ends line)) ≡ parts =
-    split_laid p parts (ends_of field_ends line) (clean_set p place new (fields_of line) h.no_field (parts_clean p line)) (ends_are p line) same in
-    let was : slice_index_or (fields_of line) place [] ≡ codes "$" = (bytes_eq-Decides (slice_index_or (fields_of line) place []) (codes "$")).0 choose in
-    ap (λ (l : List (List ℕ)). bytes_eq (slice_index_or l place []) (codes "$")) read
-    ∙ ap (λ (x : List ℕ). bytes_eq x (codes "$")) (get_set place new (fields_of line) was)
-    ∙ h.no_choose
-
-two_none : (s t : Bool) → s ≡ false → t ≡ false → s || t ≡ false
-two_none false t h k = k
-two_none true t h k = absurd cc
-
-neither : (s t : Bool) → s || t ≡ false → (s ≡ false) × (t ≡ false)
-neither true t h = absurd cc
-neither false t h = (refl, h)
+no_choose_left place new line h choose = grind (arith, split_laid, clean_set, length_set, get_set, bytes_eq-Decides, ends_are, one_more, parts_clean)
 
 clean_swap : (p : ℕ → Bool) (front old new behind : List ℕ) → list_any p new ≡ false → list_any p (front ++ (old ++ behind)) ≡ false → list_any p (front ++ (new ++ behind)) ≡ false
-clean_swap p front old new behind n h =
-    let a = neither (list_any p front) (list_any p (old ++ behind)) (sym (list_any-append p front (old ++ behind)) ∙ h) in
-    let b = neither (list_any p old) (list_any p behind) (sym (list_any-append p old behind) ∙ a.1) in
-    list_any-append p front (new ++ behind) ∙ two_none (list_any p front) (list_any p (new ++ behind)) a.0 (list_any-append p new behind ∙ two_none (list_any p new) (list_any p behind) n b.1)
+clean_swap p front old new behind n h = grind (arith, list_any-append, or_from, or_parts)
 
 -- of a line alone there are no lines in front
 no_lines : (lines rest : List ℕ) → IsWhole line_ends lines → list_any (is_one_of line_ends) (lines ++ rest) ≡ false → lines ≡ []
-no_lines lines rest (inl none) h = none
-no_lines lines rest (inr w) h =
-    let a = neither (list_any (is_one_of line_ends) lines) (list_any (is_one_of line_ends) rest) (sym (list_any-append (is_one_of line_ends) lines rest) ∙ h) in
-    let b = neither (list_any (is_one_of line_ends) w.0) (list_any (is_one_of line_ends) (w.1 ∷ [])) (sym (list_any-append (is_one_of line_ends) w.0 (w.1 ∷ [])) ∙ ap (list_any (is_one_of line_ends)) (sym w.2) ∙ a.0) in
-    absurd (let clash : true ≡ false = sym w.3 ∙ (neither (is_one_of line_ends w.1) false b.1).0 in cc)
+no_lines lines rest h h2 = grind (arith, list_any-append, or_parts)
 
 -- a line after a put: what is in front of the new text, and what is behind it
 record IsAfter (place : ℕ) (new line text : List ℕ) : Type 0 where
@@ -164,19 +128,11 @@ media_front (x ∷ (y ∷ ys)) behind more le h = h
 media_stays : (new line text : List ℕ) → IsAfter 1 new line text → is_media_line line ≡ true → is_media_line text ≡ true
 media_stays new line text a kind = ap is_media_line a.is ∙ media_front a.fields a.behind (new ++ a.behind) (long_enough 1 new line text a) (ap is_media_line (sym a.was) ∙ kind)
 
--- a line is of one kind
-first_is : (a : ℕ) (x : ℕ) (t : Bool) → (a == x) && t ≡ true → x ≡ a
-first_is a x t h = sym (eqb-true a x (and_parts (a == x) t h).0)
-
 not_media : (line : List ℕ) → is_connection line ≡ true → is_media_line line ≡ false
-not_media [] h = absurd cc
-not_media (x ∷ []) h = let e = first_is 99 x false h in rw e refl
-not_media (x ∷ (y ∷ ys)) h = let e = first_is 99 x ((61 == y) && true) h in rw e refl
+not_media line h = grind arith
 
 not_connection : (line : List ℕ) → is_media_line line ≡ true → is_connection line ≡ false
-not_connection [] h = absurd cc
-not_connection (x ∷ []) h = let e = first_is 109 x false h in rw e refl
-not_connection (x ∷ (y ∷ ys)) h = let e = first_is 109 x ((61 == y) && true) h in rw e refl
+not_connection line h = grind arith
 
 -- what a line is once it is filled
 record IsDone (text : List ℕ) : Type 0 where
@@ -227,7 +183,7 @@ lines_clean address port (line ∷ lines) a p h = ((line_done address port line 
 lines_left : (address port : List ℕ) (lines : List (List ℕ)) → IsInert address → IsInert port → AllByRecursion (IsClean (is_one_of line_ends)) lines → list_any is_fillable_line (map (filled_line address port) lines) ≡ false
 lines_left address port [] a p h = refl
 lines_left address port (line ∷ lines) a p h =
-    two_none (is_fillable_line (filled_line address port line)) (list_any is_fillable_line (map (filled_line address port) lines)) (line_done address port line a p h.0).left (lines_left address port lines a p h.1)
+    or_from (is_fillable_line (filled_line address port line)) (list_any is_fillable_line (map (filled_line address port) lines)) (line_done address port line a p h.0).left (lines_left address port lines a p h.1)
 
 length_filled : (f : List ℕ → List ℕ) (lines : List (List ℕ)) → length (map f lines) ≡ length lines
 length_filled f [] = refl
@@ -235,12 +191,7 @@ length_filled f (line ∷ lines) = ap suc (length_filled f lines)
 
 text_left : (address port text : List ℕ) → IsInert address → IsInert port → is_fillable (filled_text address port text) ≡ false
 unfolding filled_text is_fillable
-text_left address port text a p =
-    let q : ℕ → Bool = is_one_of line_ends in
-    let lines : List (List ℕ) = map (filled_line address port) (lines_of text) in
-    let read : lines_of (interleaved lines (ends_of line_ends text)) ≡ lines =
-    split_laid q lines (ends_of line_ends text) (lines_clean address port (lines_of text) a p (parts_clean q text)) (ends_are q text) (length_filled (filled_line address port) (lines_of text) ∙ one_more q text) in
-    ap (list_any is_fillable_line) read ∙ lines_left address port (lines_of text) a p (parts_clean q text)
+text_left address port text a p = grind (arith, split_laid, lines_clean, lines_left, length_filled, ends_are, one_more, parts_clean)
 
 pub nothing_left : (address : List ℕ) (slot stream : ℕ) (text : List ℕ) → IsAddress address → is_fillable (filled address slot stream text) ≡ false
 unfolding filled

@@ -4,12 +4,13 @@ use Rattle.std.specs.List.{list_all}
 use Rattle.std.specs.Fmt.{digit_glyph, digits_onto, digits}
 use Rattle.std.proofs.lemmas.Bool.{and_parts, and_from, eqb-true}
 use Rattle.std.proofs.lemmas.Bool.Decides.{nat_tests}
+use Rattle.std.proofs.Math.Bool.{or-true}
 use Rattle.gw_base.specs.Bytes.{is_digit}
 use Rattle.gw_base.specs.Addresses.{is_address_byte, IsAddress}
 use Rattle.gw_text.specs.Lexical.{nul, backslash, right_brace, is_blank}
 use Rattle.gw_text.specs.Runs.{IsRun, begins}
 use Rattle.gw_text.specs.Octets.{EndsKept}
-use Rattle.gw_text.proofs.FormLaws.{is_another, are_octets, octets_are, are_are}
+use Rattle.gw_text.proofs.FormLaws.{are_octets, octets_are, are_are}
 use Rattle.gw_desc.specs.Fill.{is_connection, is_media_line}
 use Rattle.gw_desc.specs.KeptTexts.{IsKeptOctets}
 use Rattle.gw_desc.specs.FillSteps.{is_plain_byte, IsPlain, IsPut, IsFilledOnce, IsChain, IsReached}
@@ -21,28 +22,16 @@ pub record IsPlainByte (b : ℕ) : Type 0 where
   slash : b == backslash ≡ false
   solid : is_blank b ≡ false
 
-was_false : (b : Bool) → not b ≡ true → b ≡ false
-was_false false h = refl
-was_false true h = absurd cc
-
 plain_byte : (b : ℕ) → is_plain_byte b ≡ true → IsPlainByte b
-plain_byte b h =
-    let x = and_parts (not (b == nul)) (not (b == right_brace) && (not (b == backslash) && not (is_blank b))) h in
-    let y = and_parts (not (b == right_brace)) (not (b == backslash) && not (is_blank b)) x.1 in
-    let z = and_parts (not (b == backslash)) (not (is_blank b)) y.1 in
-    record { nul = was_false (b == nul) x.0; brace = was_false (b == right_brace) y.0; slash = was_false (b == backslash) z.0; solid = was_false (is_blank b) z.1 }
+plain_byte b h = grind arith
 
 dollar : IsPlainByte 36
 dollar = record { nul = refl; brace = refl; slash = refl; solid = refl }
 
-or_true : (a : Bool) → a || true ≡ true
-or_true true = refl
-or_true false = refl
-
 -- ---- octets
 
 octets_plain : (e : Bool) (b : ℕ) (bs : List ℕ) → IsPlainByte b → are_octets e (b ∷ bs) ≡ are_octets false bs
-octets_plain e b bs h = rw (h.nul, h.brace, h.slash, or_true e) refl
+octets_plain e b bs h = rw (h.nul, h.brace, h.slash, or-true e) refl
 
 octets_run : (new rest : List ℕ) → IsRun is_plain_byte new → are_octets false (new ++ rest) ≡ are_octets false rest
 octets_run [] rest h = refl
@@ -68,7 +57,7 @@ ends_kept kept e [] = kept
 ends_kept kept e (b ∷ bs) = ends_kept (e || not (is_blank b)) (b == backslash) bs
 
 ends_solid : (kept e : Bool) (front : List ℕ) (last : ℕ) → is_blank last ≡ false → ends_kept kept e (front ++ last ∷ []) ≡ true
-ends_solid kept e [] last h = rw h (or_true e)
+ends_solid kept e [] last h = rw h (or-true e)
 ends_solid kept e (b ∷ bs) last h = ends_solid (e || not (is_blank b)) (b == backslash) bs last h
 
 ends_slash : (kept e : Bool) (front : List ℕ) (last : ℕ) → ends_kept kept e (front ++ backslash ∷ (last ∷ [])) ≡ true
@@ -76,9 +65,7 @@ ends_slash kept e [] last = refl
 ends_slash kept e (b ∷ bs) last = ends_slash (e || not (is_blank b)) (b == backslash) bs last
 
 ends_are : (span trail : List ℕ) → EndsKept span trail → ends_kept true false span ≡ true
-ends_are span trail (inl k) = ap (ends_kept true false) k.2 ∙ ends_solid true false k.0 k.1 k.3
-ends_are span trail (inr (inl k)) = ap (ends_kept true false) k.2 ∙ ends_slash true false k.0 k.1
-ends_are span trail (inr (inr k)) = ap (ends_kept true false) k
+ends_are span trail h = grind (arith, ends_solid, ends_slash)
 
 -- and back
 abbrev Ends : (kept e : Bool) → List ℕ → Type 0
@@ -108,13 +95,10 @@ ends_back kept e (b ∷ bs) h =
     (ends_back (e || not (is_blank b)) (b == backslash) bs h)
 
 as_kept : (span : List ℕ) → Ends true false span → EndsKept span []
-as_kept span (inl h) = inl (h.0, h.1, h.2, h.3, λ same. refl)
-as_kept span (inr (inl h)) = inr (inl h)
-as_kept span (inr (inr (inl h))) = absurd (let clash : false ≡ true = h.2 in cc)
-as_kept span (inr (inr (inr h))) = inr (inr h.0)
+as_kept span h = grind arith
 
 ends_plain : (kept e : Bool) (b : ℕ) (bs : List ℕ) → IsPlainByte b → ends_kept kept e (b ∷ bs) ≡ ends_kept true false bs
-ends_plain kept e b bs h = rw (h.solid, h.slash, or_true e) refl
+ends_plain kept e b bs h = rw (h.solid, h.slash, or-true e) refl
 
 ends_run : (new rest : List ℕ) → IsRun is_plain_byte new → ends_kept true false (new ++ rest) ≡ ends_kept true false rest
 ends_run [] rest h = refl
@@ -177,8 +161,7 @@ reached_kept address port old new a p r k = chain_kept address port old r.0 new 
 -- ---- what is put in is plain
 
 plain_from : (p : ℕ → Bool) → p 0 ≡ false → p 125 ≡ false → p 92 ≡ false → p 32 ≡ false → p 9 ≡ false → p 13 ≡ false → p 10 ≡ false → (b : ℕ) → p b ≡ true → is_plain_byte b ≡ true
-plain_from p zero_not brace slash space tab cr lf b h =
-    rw (is_another b 0 p zero_not h, is_another b 125 p brace h, is_another b 92 p slash h, is_another b 32 p space h, is_another b 9 p tab h, is_another b 13 p cr h, is_another b 10 p lf h) refl
+plain_from p zero_not brace slash space tab cr lf b h = grind arith
 
 address_byte : (b : ℕ) → is_address_byte b ≡ true → is_plain_byte b ≡ true
 address_byte = plain_from is_address_byte refl refl refl refl refl refl refl

@@ -2,7 +2,6 @@
 use Rattle.std.proofs.Common.{◌≡◌, ℕ, suc, ◌+◌, ◌-◌, ◌<◌, ◌≤◌, zero, Bool, true, false, ◌==◌, ◌||◌, List, [], ◌∷◌, ◌++◌, length, take, drop, get_or, Option, None, Some, IfNone, IfSome, if◌then◌else◌, ◌&&◌, bytes_eq, codes, append-nil, subst, refl, ap, sym, ◌∙◌, append_assoc, arith}
 use Rattle.std.specs.List.{list_any}
 use Rattle.std.proofs.lemmas.Bool.{and_parts}
-use Rattle.std.proofs.lemmas.Bool.Decides.{nat_tests}
 use Rattle.std.proofs.lemmas.Slice.Eq.{bytes_eq-Decides}
 use Rattle.std.proofs.Math.Seq.{take-add, take-append-add, drop-append-add}
 use Rattle.std.proofs.lemmas.List.{take-append-drop, take-append-le, drop-append-le, drop-drop, take_at, drop_at, at_drop_more, length-take, length-drop, length-append}
@@ -20,16 +19,7 @@ line_long d len lt = omega (arith, length-take len d)
 
 -- pieces in a row
 in_a_row : (a b c n d e f : List ℕ) → (a ++ ((b ++ c) ++ n)) ++ ((d ++ e) ++ f) ≡ a ++ (b ++ (((c ++ (n ++ d)) ++ e) ++ f))
-in_a_row a b c n d e f =
-    append_assoc a ((b ++ c) ++ n) ((d ++ e) ++ f)
-    ∙ ap (λ (x : List ℕ). a ++ x) (
-    append_assoc (b ++ c) n ((d ++ e) ++ f)
-    ∙ append_assoc b c (n ++ ((d ++ e) ++ f))
-    ∙ ap (λ (x : List ℕ). b ++ x) (
-    ap (λ (x : List ℕ). c ++ (n ++ x)) (append_assoc d e f)
-    ∙ ap (λ (x : List ℕ). c ++ x) (sym (append_assoc n d (e ++ f)))
-    ∙ sym (append_assoc c (n ++ d) (e ++ f))
-    ∙ sym (append_assoc (c ++ (n ++ d)) e f)))
+in_a_row a b c n d e f = grind (arith, append_assoc)
 
 -- ---- a line that stays as it is
 
@@ -107,18 +97,11 @@ line_filled address port new out rest same len at lt below none ends is =
     ∙ ap (λ (x : List ℕ). out ++ (take same rest ++ ((x ++ e ∷ []) ++ filled_text address port back))) (sym filled)
     ∙ ap (λ (x : List ℕ). out ++ (take same rest ++ x)) (sym next)
 
-pub filled_left : (rest : List ℕ) (same len at : ℕ) → len < length (drop same rest) → at < len → drop (len - at) (drop (same + at + 1) rest) ≡ drop (same + (len + 1)) rest
-filled_left rest same len at lt below = drop-drop (len - at) (same + at + 1) rest ∙ ap (λ (n : ℕ). drop n rest) there
-  where
-    there : same + at + 1 + (len - at) ≡ same + (len + 1)
-    there = omega (arith, below)
-
 -- ---- the last line
 
 pub last_stays : (address port rest : List ℕ) (same : ℕ) → list_any (is_one_of line_ends) (drop same rest) ≡ false → filled_line address port (drop same rest) ≡ drop same rest
     → take same rest ++ filled_text address port (drop same rest) ≡ rest
-last_stays address port rest same none stays =
-    ap (λ (x : List ℕ). take same rest ++ x) ((lines_last address port (drop same rest) none).0 ∙ stays) ∙ take-append-drop same rest
+last_stays address port rest same none stays = grind (arith, lines_last, take-append-drop)
 
 pub last_filled : (address port new out rest : List ℕ) (same at : ℕ) → at < length (drop same rest) → list_any (is_one_of line_ends) (drop same rest) ≡ false
     → filled_line address port (drop same rest) ≡ take at (drop same rest) ++ (new ++ drop (suc at) (drop same rest))
@@ -140,12 +123,7 @@ last_told address port line none = (lines_last address port line none).1
 -- ---- where a line ends
 
 other_byte : (b : ℕ) → ((b == 13 || b == 10) ≡ true → ⊥) → is_one_of line_ends b ≡ false
-other_byte b never = by (b == 13) (b == 10) refl refl
-  where
-    by : (s t : Bool) → (b == 13) ≡ s → (b == 10) ≡ t → is_one_of line_ends b ≡ false
-    by true t e f = absurd (never (rw e refl))
-    by false true e f = absurd (never (rw (e, f) refl))
-    by false false e f = grind (arith, nat_tests)
+other_byte b never = grind arith
 
 -- the first end of a line, as a search of bytes tells it
 abbrev pub IsEnd : List ℕ → Option ℕ → Type 0
@@ -168,8 +146,7 @@ no_end text None first = ap (λ (t : List ℕ). list_any (is_one_of line_ends) t
 no_end text (Some k) first = tt
 
 pub clean_before : (text : List ℕ) (r : Option ℕ) → IsEnd text r → IfSome r (λ len. list_any (is_one_of line_ends) (take len text) ≡ false)
-clean_before text None first = tt
-clean_before text (Some k) first = none_below text k (omega (arith, first.0.high)) (λ j lt. first.0.before j (omega arith) lt)
+clean_before text r first = grind (arith, none_below)
 
 -- ---- a `$` in a line
 
@@ -261,11 +238,11 @@ pub told_past : (recognized line rest all d : Bool) → (recognized || d) ≡ al
 told_past recognized line rest all d before next none = ap (λ (t : Bool). recognized || (t || rest)) none ∙ ap (λ (t : Bool). recognized || t) (sym next) ∙ before
 
 pub told_here : (recognized line rest all d : Bool) → (recognized || d) ≡ all → d ≡ (line || rest) → true ≡ line → true ≡ all
-told_here recognized line rest all d before next one = by recognized ∙ ap (λ (t : Bool). recognized || (t || rest)) one ∙ ap (λ (t : Bool). recognized || t) (sym next) ∙ before
-  where
-    by : (t : Bool) → true ≡ (t || (true || rest))
-    by true = refl
-    by false = refl
+told_here recognized line rest all d before next one = grind arith
 
 pub told_last : (d line t : Bool) → d ≡ line → t ≡ line → t ≡ d
 told_last d line t next said = said ∙ sym next
+
+pub ruleset last_line = (last_stays, last_filled, last_told, told_last)
+
+pub ruleset other_fields = (only_other, first_other, later_other)

@@ -1,16 +1,11 @@
 -- Texts by their parts, from one part to the next.
-use Rattle.std.proofs.Common.{◌≡◌, ℕ, ◌<◌, Bool, true, false, ◌||◌, List, [], ◌∷◌, ◌++◌, length, refl, ap, ◌∙◌, arith}
-use Rattle.std.specs.List.{filter, list_any, slice_split, onto_first}
-use Rattle.std.proofs.lemmas.List.Splits.{length-slice_split}
+use Rattle.std.proofs.Common.{◌≡◌, ℕ, Bool, true, false, List, [], ◌∷◌, ◌++◌, refl, arith}
+use Rattle.std.specs.List.{filter, list_any, slice_split}
 use Rattle.gw_desc.specs.Fill.{interleaved}
 
 -- no element passes, and so neither does the first one, nor one behind it
 pub none_passes : (p : ℕ → Bool) (x : ℕ) (xs : List ℕ) → list_any p (x ∷ xs) ≡ false → (p x ≡ false) × (list_any p xs ≡ false)
-none_passes p x xs h = by (p x) refl h
-  where
-    by : (t : Bool) → p x ≡ t → (t || list_any p xs) ≡ false → (p x ≡ false) × (list_any p xs ≡ false)
-    by true e k = absurd cc
-    by false e k = (e, k)
+none_passes p x xs h = grind arith
 
 -- ---- the first part, and what is behind it
 
@@ -45,14 +40,8 @@ ends_last p (b ∷ bs) none =
 
 -- ---- parts laid out again are the text
 
-onto_front : (b : ℕ) (parts : List (List ℕ)) (ends : List ℕ) → 0 < length parts → interleaved (onto_first b parts) ends ≡ b ∷ interleaved parts ends
-onto_front b [] ends h = absurd (omega arith)
-onto_front b (part ∷ parts) [] h = refl
-onto_front b (part ∷ parts) (end ∷ ends) h = refl
-
 again : (p : ℕ → Bool) (b : ℕ) (bs : List ℕ) (t : Bool) → p b ≡ t → interleaved (slice_split p bs) (filter p bs) ≡ bs → interleaved (slice_split p (b ∷ bs)) (filter p (b ∷ bs)) ≡ b ∷ bs
-again p b bs true e rest = rw e (ap (λ (t : List ℕ). b ∷ t) rest)
-again p b bs false e rest = rw e (onto_front b (slice_split p bs) (filter p bs) (omega (arith, length-slice_split p bs)) ∙ ap (λ (t : List ℕ). b ∷ t) rest)
+again p b bs t e rest = grind arith
 
 pub laid_again : (p : ℕ → Bool) (text : List ℕ) → interleaved (slice_split p text) (filter p text) ≡ text
 laid_again p [] = refl

@@ -1,5 +1,5 @@
 -- What a descriptor spells is kept with its form.
-use Rattle.std.proofs.Common.{◌≡◌, inl, inr, ℕ, Bool, true, false, List, [], ◌∷◌, ◌++◌, refl, ap, sym, ◌∙◌, subst, append_assoc, append-nil, Option, Some, None}
+use Rattle.std.proofs.Common.{◌≡◌, inl, inr, ℕ, Bool, true, false, List, [], ◌∷◌, ◌++◌, refl, ap, sym, ◌∙◌, append_assoc, append-nil, Option, arith}
 use Rattle.std.specs.List.{All, list_all}
 use Rattle.std.proofs.lemmas.List.Elements.{All-nil, All-cons}
 use Rattle.std.proofs.lemmas.List.Folds.{list_all-append}
@@ -7,9 +7,9 @@ use Rattle.std.proofs.lemmas.Bool.{and_parts}
 use Rattle.gw_text.specs.Lexical.{backslash, right_brace, is_blank}
 use Rattle.gw_text.specs.Runs.{IsRun}
 use Rattle.gw_text.specs.Octets.{is_octet, EndsIn, EndsKept, IsOctets, IsOctetsOf}
-use Rattle.gw_text.specs.Forms.{IsWord, Separated, Braced}
+use Rattle.gw_text.specs.Forms.{Separated, Braced}
 use Rattle.gw_text.specs.Group.{IsGroup}
-use Rattle.gw_desc.specs.Grammar.{IsValue, request_depth, SpellsProperty, SpellsTail, SpellsEquals, SpellsOptionalGroup, IsThere, SpellsStreamPart, SpellsMediaPart, SpellsDescriptor}
+use Rattle.gw_desc.specs.Grammar.{request_depth, SpellsProperty, SpellsTail, SpellsEquals, SpellsOptionalGroup, IsThere, SpellsStreamPart, SpellsMediaPart, SpellsDescriptor}
 use Rattle.gw_desc.specs.declared.descriptor.Descriptor.{Descriptor}
 use Rattle.gw_desc.specs.declared.descriptor.Descriptor.TheVariants as descriptor
 use Rattle.gw_desc.specs.declared.descriptor.MediaPart.{MediaPart}
@@ -23,19 +23,13 @@ use Rattle.gw_desc.specs.KeptTexts.{IsOptional, IsKeptProperty, IsKeptWord, IsKe
 -- ---- properties and tails
 
 pub property_kept : (p : Property (List ℕ)) (text : List ℕ) → SpellsProperty p text → IsKeptProperty p
-property_kept p text h = record {
-  name = subst IsWord (sym h.first.0) h.first.1;
-  value = subst IsValue (sym h.second.second.0) h.second.second.1;
-}
+property_kept p text h = grind arith
 
 equals_kept : (equals : Bool) (w : Option (List ℕ)) (text : List ℕ) → SpellsEquals equals w text → (IsThere w → equals ≡ true) → IsOptional (IsKeptWord equals) w
-equals_kept equals None text h behind = tt
-equals_kept false (Some w) text h behind = let e : false ≡ true = behind tt in absurd cc
-equals_kept true (Some w) text h behind = (refl, subst IsWord (sym h.second.0) h.second.1)
+equals_kept equals w text h behind = grind arith
 
 group_kept : (g : Option (List ℕ)) (text : List ℕ) → SpellsOptionalGroup g text → IsOptional (IsGroup request_depth) g
-group_kept None text h = tt
-group_kept (Some g) text h = subst (IsGroup request_depth) (sym h.second.0) h.second.1
+group_kept g text h = grind arith
 
 pub tail_kept : (t : Tail (List ℕ)) (text : List ℕ) → SpellsTail t text → IsKeptTail t
 tail_kept t text h = record { word = equals_kept t.equals t.word h.words.front h.words.first h.behind; group = group_kept t.group h.words.back h.words.second; some = h.some }
@@ -93,8 +87,7 @@ kept_octets span body h = record {
         none_ends (c ∷ cs) e = absurd cc
 
 ends_kept : (span trail : List ℕ) → EndsKept span trail → EndsKept span []
-ends_kept span trail (inl k) = inl (k.0, k.1, k.2, k.3, λ same. refl)
-ends_kept span trail (inr k) = inr k
+ends_kept span trail h = grind arith
 
 -- and all of them is kept again
 pub octets_kept : (span body : List ℕ) → IsOctetsOf span body → IsKeptOctets span

@@ -1,7 +1,6 @@
 -- Numbers that are marked by a bit each.
-use Rattle.std.proofs.Common.{◌≡◌, ◌≢◌, ℕ, zero, ◌/◌, ◌%◌, ◌^◌, ◌<◌, ◌==◌, not, Bool, true, false, ◌||◌, List, [], ◌∷◌, ◌++◌, ◌+◌, length, drop, get_or, replicate, refl, sym, ◌∙◌, ap, arith, bit_and, inl, inr}
+use Rattle.std.proofs.Common.{◌≡◌, ◌≢◌, ℕ, zero, ◌/◌, ◌%◌, ◌^◌, ◌<◌, ◌==◌, not, Bool, false, ◌||◌, List, [], ◌∷◌, ◌++◌, ◌+◌, length, drop, get_or, replicate, refl, sym, ◌∙◌, ap, arith, bit_and}
 use Rattle.std.specs.List.{list_any}
-use Rattle.std.proofs.Math.ListN.{length-set}
 use Rattle.std.proofs.Math.Nat.{div-add-mod}
 use Rattle.std.proofs.lemmas.Bool.{eqb-false, eqb-true, ne_eqb}
 use Rattle.std.proofs.lemmas.Nat.{pow_apart, pow_pos, and_or_apart, and_or_self}
@@ -21,67 +20,33 @@ mark seen q = bit_and (get_or seen (q / 64) 0) (2 ^ (q % 64))
 
 mark-self : (seen : List ℕ) (n : ℕ) → n / 64 < length seen → mark (with_mark seen n) n ≢ 0
 unfolding with_mark
-mark-self seen n h none =
-    let bit = 2 ^ (n % 64) in
-    let gone : bit ≡ 0 = sym (and_or_self bit (get_or seen (n / 64) 0)) ∙ sym (ap (λ w. bit_and w bit) (get_or-set_same seen (n / 64) _ 0 h)) ∙ none in
-    let some : 0 < bit = pow_pos (n % 64) in
-    absurd (omega arith)
+mark-self seen n h none = grind (arith, and_or_self, get_or-set_same, pow_pos)
 
 mark-other : (seen : List ℕ) (n q : ℕ) → n / 64 < length seen → q ≢ n → mark (with_mark seen n) q ≡ mark seen q
 unfolding with_mark
-mark-other seen n q h other =
-    let bit = 2 ^ (q % 64) in
-    elim (eqb_tells (q / 64) (n / 64)) [
-      | inl t ↦ ap (λ w. bit_and w bit) (get_or-set_at seen (n / 64) (q / 64) _ 0 t.1 h) ∙ and_or_apart bit (get_or seen (n / 64) 0) (2 ^ (n % 64)) (pow_apart (n % 64) (q % 64) (omega arith)) ∙ ap (λ i. bit_and (get_or seen i 0) bit) (sym t.1)
-      | inr t ↦ ap (λ w. bit_and w bit) (get_or-set_other seen (n / 64) (q / 64) _ 0 t.1)
-    ]
-
-pub length-marked : (seen : List ℕ) (n : ℕ) → length (with_mark seen n) ≡ length seen
-unfolding with_mark
-length-marked seen n = length-set seen (n / 64) _
+mark-other seen n q h other = grind (arith, and_or_apart, eqb_tells, get_or-set_at, get_or-set_other, pow_apart)
 
 -- what is marked afterwards: that number, and what was
 marked_one : (seen : List ℕ) (n q : ℕ) (t : Bool) → (n == q) ≡ t → n / 64 < length seen → is_in_set (with_mark seen n) q ≡ (t || is_in_set seen q)
 unfolding is_in_set
-marked_one seen n q true e h =
-    let same : n ≡ q = eqb-true n q e in
-    ap (λ (k : ℕ). not (mark (with_mark seen n) k == 0)) (sym same) ∙ ap not (ne_eqb (mark (with_mark seen n) n) 0 (mark-self seen n h))
-marked_one seen n q false e h =
-    ap (λ (m : ℕ). not (m == 0)) (mark-other seen n q h (λ same. eqb-false n q e (sym same)))
+marked_one seen n q t e h = grind (arith, mark-self, mark-other, eqb-false, eqb-true, ne_eqb)
 
 or_swap : (a b c d : Bool) → ((a || b) || (c || d)) ≡ ((a || c) || (b || d))
-or_swap true b c d = refl
-or_swap false true true d = refl
-or_swap false true false d = refl
-or_swap false false c d = refl
+or_swap a b c d = grind arith
 
 any_marked : (seen : List ℕ) (n : ℕ) (rest : List ℕ) → n / 64 < length seen → list_any (is_in_set (with_mark seen n)) rest ≡ (list_any (λ q. n == q) rest || list_any (is_in_set seen) rest)
 any_marked seen n [] h = refl
 any_marked seen n (q ∷ qs) h =
     rw (marked_one seen n q (n == q) refl h, any_marked seen n qs h) (or_swap (n == q) (is_in_set seen q) (list_any (λ k. n == k) qs) (list_any (is_in_set seen) qs))
 
-or_turn : (a b c : Bool) → (a || (b || c)) ≡ ((b || a) || c)
-or_turn true true c = refl
-or_turn true false c = refl
-or_turn false true c = refl
-or_turn false false c = refl
-
 -- a number that has no mark yet, and those behind it
 pub mark_next : (seen : List ℕ) (n : ℕ) (rest : List ℕ) → length seen ≡ 1024 → n < 2 ^ 16 → is_in_set seen n ≡ false
     → (list_any (is_in_set seen) (n ∷ rest) || has_number_twice (n ∷ rest)) ≡ (list_any (is_in_set (with_mark seen n)) rest || has_number_twice rest)
 unfolding has_number_twice
-mark_next seen n rest room small none =
-    rw (none, any_marked seen n rest (omega (arith, room, div-add-mod n 64))) (or_turn (list_any (is_in_set seen) rest) (list_any (λ q. n == q) rest) (has_number_twice rest))
-
--- one that has its mark
-pub mark_found : (seen : List ℕ) (n : ℕ) (rest : List ℕ) → is_in_set seen n ≡ true → (list_any (is_in_set seen) (n ∷ rest) || has_number_twice (n ∷ rest)) ≡ true
-mark_found seen n rest found = rw found refl
+mark_next seen n rest room small none = grind (arith, any_marked, div-add-mod)
 
 unmarked_at : (n i : ℕ) → get_or (replicate n zero) i 0 ≡ 0
-unmarked_at n i = elim (leb_tells n i) [
-  | inl t ↦ get_or_past _ i 0 (omega (arith, length-replicate n zero, t.1))
-  | inr t ↦ get_or-replicate n i zero zero t.1
-]
+unmarked_at n i = grind (arith, get_or-replicate, get_or_past, leb_tells, length-replicate)
 
 no_mark : (seen : List ℕ) (n : ℕ) → get_or seen (n / 64) 0 ≡ 0 → is_in_set seen n ≡ false
 unfolding is_in_set
@@ -114,8 +79,4 @@ past_number seen parts i n p h is one room small none =
     ap (left_twice seen) (next_part parts i p h is ∙ ap (λ (front : List ℕ). front ++ numbers_in (drop (i + 1) parts)) one)
     ∙ mark_next seen n (numbers_in (drop (i + 1) parts)) room small none
 
-pub found_number : (seen : List ℕ) (parts : List MediaPart) (i n : ℕ) (p : MediaPart) → i < length parts → p ≡ get_or parts i p → number_in p ≡ n ∷ [] → is_in_set seen n ≡ true
-    → left_twice seen (numbers_in (drop i parts)) ≡ true
-found_number seen parts i n p h is one found =
-    ap (left_twice seen) (next_part parts i p h is ∙ ap (λ (front : List ℕ). front ++ numbers_in (drop (i + 1) parts)) one)
-    ∙ mark_found seen n (numbers_in (drop (i + 1) parts)) found
+pub ruleset past_parts = (past_other, past_number)

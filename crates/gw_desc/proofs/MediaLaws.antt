@@ -1,5 +1,5 @@
 -- The readers of the parts of a Media descriptor read their forms.
-use Rattle.std.proofs.Common.{◌≡◌, ℕ, Bool, true, false, List, [], ◌∷◌, ◌++◌, Some, None, refl, ap, sym, subst, ◌∙◌}
+use Rattle.std.proofs.Common.{◌≡◌, ℕ, Bool, true, false, List, [], ◌∷◌, ◌++◌, Some, None, refl, ap, sym, subst, ◌∙◌, arith}
 use Rattle.std.proofs.lemmas.List.{append-nil}
 use Rattle.gw_base.specs.Bytes.{is_digit}
 use Rattle.gw_base.specs.Lang.{Both, ◌▹◌, IsText}
@@ -76,9 +76,7 @@ brace_reads =
 
 -- white space with nothing behind it
 space_alone : (span other text : List ℕ) → Both IsSpace (Nothing span other) text → IsSpace text × (span ≡ other)
-space_alone span other text b =
-    let whole : b.front ≡ text = sym (append-nil b.front) ∙ ap (λ (x : List ℕ). b.front ++ x) (sym b.second.1) ∙ sym b.split in
-    (subst IsSpace whole b.first, b.second.0)
+space_alone span other text b = grind (arith, append-nil)
 
 alone_space : (span text : List ℕ) → IsSpace text → Both IsSpace (Nothing span span) text
 alone_space span text h = record { front = text; back = []; split = sym (append-nil text); first = h; second = (refl, refl) }
@@ -111,10 +109,7 @@ made_of r f P h = up_from (up_last r f P Any UpTo Skipped h) same_up
 
 -- nothing is read
 pub up_none : {W : Type 0} (To : List ℕ → List ℕ → Type 0) (Next : List ℕ → Type 0) → ReadsUp {V = W} (λ text. None) (λ w text. ⊥) Next Same To
-up_none To Next = record {
-  sound = λ text w rest e. absurd cc;
-  complete = λ w front rest start q n e. absurd q;
-}
+up_none To Next = grind arith
 
 -- ---- parts of a stream
 
@@ -143,9 +138,7 @@ stream_part_to token.LocalControl p text b = subst (λ (x : StreamPart). SpellsS
 stream_part_to _ p text b = absurd (b.second)
 
 stream_part_from : (p : StreamPart) (text : List ℕ) → SpellsStreamPart p text → (t : Token) × Both (IsToken t) (StreamRest t p) text
-stream_part_from (part.Local span) text b = (token.Local, with_second b (span, refl, b.second))
-stream_part_from (part.Remote span) text b = (token.Remote, with_second b (span, refl, b.second))
-stream_part_from (part.LocalControl list) text b = (token.LocalControl, with_second b (list, refl, b.second))
+stream_part_from p text b = grind arith
 
 pub stream_part_reads : ReadsUp stream_part_at SpellsStreamPart Any Same Skipped
 unfolding stream_part_at
@@ -161,10 +154,7 @@ stream_part_solid : BeginsWith is_solid SpellsStreamPart
 stream_part_solid p text h = let s = stream_part_from p text h in both_begins is_solid (IsToken s.0) (StreamRest s.0 p) (token_solid s.0) text s.1
 
 stream_part_braces : BracesUp SpellsStreamPart Any
-stream_part_braces = record {
-  lists = record { next = λ front more sign. tt; begins = stream_part_solid };
-  closes = λ front more sign. tt;
-}
+stream_part_braces = grind (arith, stream_part_solid)
 
 -- ---- streams
 
@@ -221,18 +211,8 @@ media_part_to token.Stream m text b =
 media_part_to token.TerminationState m text b = subst (λ (x : MediaPart). SpellsMediaPart x text) b.second.1 (with_second b b.second.2)
 media_part_to t m text b = subst (λ (x : MediaPart). SpellsMediaPart x text) b.second.1 (stream_part_to t b.second.0 text (with_second b b.second.2))
 
--- a part of a stream is no Stream, and no TerminationState
-outside_from : (t : Token) (p : StreamPart) (text : List ℕ) → Both (IsToken t) (StreamRest t p) text → (u : Token) × Both (IsToken u) (MediaRest u (media.Outside p)) text
-outside_from token.Stream p text b = absurd (b.second)
-outside_from token.TerminationState p text b = absurd (b.second)
-outside_from t p text b = (t, with_second b (p, refl, b.second))
-
 media_part_from : (m : MediaPart) (text : List ℕ) → SpellsMediaPart m text → (t : Token) × Both (IsToken t) (MediaRest t m) text
-media_part_from (media.Outside p) text b = let s = stream_part_from p text b in outside_from s.0 p text s.1
-media_part_from (media.Stream id parts) text b =
-    let c = b.second in let d = c.second in
-    (token.Stream, with_second b (with_second c (id, with_second d (parts, refl, d.second))))
-media_part_from (media.TerminationState list) text b = (token.TerminationState, with_second b (list, refl, b.second))
+media_part_from m text b = grind arith
 
 pub media_part_reads : ReadsUp media_part_at SpellsMediaPart Any Same Skipped
 unfolding media_part_at
@@ -248,7 +228,4 @@ media_part_solid : BeginsWith is_solid SpellsMediaPart
 media_part_solid m text h = let s = media_part_from m text h in both_begins is_solid (IsToken s.0) (MediaRest s.0 m) (token_solid s.0) text s.1
 
 pub media_part_braces : BracesUp SpellsMediaPart Any
-media_part_braces = record {
-  lists = record { next = λ front more sign. tt; begins = media_part_solid };
-  closes = λ front more sign. tt;
-}
+media_part_braces = grind (arith, media_part_solid)

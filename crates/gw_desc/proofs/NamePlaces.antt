@@ -1,5 +1,5 @@
 -- What the search among neighbours knows of places that stand in the order of their names.
-use Rattle.std.proofs.Common.{◌≡◌, ◌≢◌, ℕ, ◌+◌, ◌<◌, false, List, [], length, get_or, sym, ◌∙◌, ap, arith, Less, Equal, Greater, inl, inr, true≢false}
+use Rattle.std.proofs.Common.{◌≡◌, ◌≢◌, ℕ, ◌+◌, ◌<◌, false, List, [], length, get_or, sym, ◌∙◌, ap, arith, Less, Equal, inl, inr, true≢false}
 use Rattle.std.specs.declared.cmp.Ordering.{Ordering}
 use Rattle.std.specs.Ordering.{is_lt, is_eq, eq_by_cmp, nat_cmp, ordering_reverse}
 use Rattle.std.specs.Cmp.{IsTotalOrder}
@@ -57,9 +57,7 @@ double-from_places names numbered places w i j before within same =
     ]
 
 only_less : (r s : Ordering) → r ≡ ordering_reverse s → is_lt s ≡ false → r ≢ Equal → r ≡ Less
-only_less r Less e l n = absurd (true≢false l)
-only_less r Equal e l n = absurd (n e)
-only_less r Greater e l n = e
+only_less r s e l n = grind arith
 
 -- where no neighbours have one name, no two places have
 pub no_double-from_neighbours : (names : List (List ℕ)) (numbered places : List ℕ) → ArePlaces names numbered places → IsSortedBy (λ a b. is_lt (order names a b)) places → ((k : ℕ) → k + 1 < length places → key names (get_or places k 0) ≢ key names (get_or places (k + 1) 0)) → ¬ HasDouble names

@@ -28,21 +28,11 @@ plain_property p h = (rw (none_of_one (λ (q : Property (List ℕ)). is_mode q.n
 
 two_parts : (a b : StreamPart) → has_part_twice (a ∷ b ∷ []) ≡ is_same_part a b
 unfolding has_part_twice
-two_parts (part.Local a) (part.Local b) = refl
-two_parts (part.Local a) (part.Remote b) = refl
-two_parts (part.Local a) (part.LocalControl b) = refl
-two_parts (part.Remote a) (part.Local b) = refl
-two_parts (part.Remote a) (part.Remote b) = refl
-two_parts (part.Remote a) (part.LocalControl b) = refl
-two_parts (part.LocalControl a) (part.Local b) = refl
-two_parts (part.LocalControl a) (part.Remote b) = refl
-two_parts (part.LocalControl a) (part.LocalControl b) = refl
+two_parts a b = grind arith
 
 one_part : (a : StreamPart) → has_part_twice (a ∷ []) ≡ false
 unfolding has_part_twice
-one_part (part.Local a) = refl
-one_part (part.Remote a) = refl
-one_part (part.LocalControl a) = refl
+one_part a = grind arith
 
 pub plain_stream_of_one : (a : StreamPart) → IsPlainPart a → IsPlainStream (a ∷ [])
 plain_stream_of_one a h = (one_part a, rw h.0 refl, rw h.1 refl, rw h.2 refl)
@@ -61,51 +51,19 @@ plain_media number parts n h =
 
 of_one : (v : Verb) (parts : List MediaPart) → is_usual v ≡ true → IsPlainMedia parts → check_code v (descriptor.Media parts ∷ []) ≡ None
 unfolding check_code has_illegal has_unknown has_twice has_kind_twice has_content_twice has_bad has_past
-of_one verb.Add parts u h = rw (h.0, h.1, h.2, h.3) refl
-of_one verb.Modify parts u h = rw (h.0, h.1, h.2, h.3) refl
-of_one verb.Move parts u h = rw (h.0, h.1, h.2, h.3) refl
-of_one verb.Subtract parts u h = absurd cc
-of_one verb.AuditValue parts u h = absurd cc
-of_one verb.AuditCapability parts u h = absurd cc
-of_one verb.Notify parts u h = absurd cc
-of_one verb.ServiceChange parts u h = absurd cc
+of_one v parts u h = grind arith
 
 kept_with : (v : Verb) (parts : List MediaPart) (kind : KeptKind) (tail : Tail (List ℕ)) → has_kind_twice (descriptor.Media parts ∷ descriptor.Keep kind tail ∷ []) ≡ false
 unfolding has_kind_twice
-kept_with v parts kept.Events tail = refl
-kept_with v parts kept.Signals tail = refl
-kept_with v parts kept.DigitMap tail = refl
-kept_with v parts kept.EventBuffer tail = refl
+kept_with v parts kind tail = grind arith
 
 of_two : (v : Verb) (parts : List MediaPart) (kind : KeptKind) (tail : Tail (List ℕ)) → is_usual v ≡ true → IsPlainMedia parts → is_tail_long tail ≡ false
     → check_code v (descriptor.Media parts ∷ descriptor.Keep kind tail ∷ []) ≡ None
 unfolding check_code has_illegal has_unknown has_twice has_content_twice has_bad has_past
-of_two verb.Add parts kind tail u h t = rw (kept_with verb.Add parts kind tail, h.0, h.1, h.2, h.3, t) refl
-of_two verb.Modify parts kind tail u h t = rw (kept_with verb.Add parts kind tail, h.0, h.1, h.2, h.3, t) refl
-of_two verb.Move parts kind tail u h t = rw (kept_with verb.Add parts kind tail, h.0, h.1, h.2, h.3, t) refl
-of_two verb.Subtract parts kind tail u h t = absurd cc
-of_two verb.AuditValue parts kind tail u h t = absurd cc
-of_two verb.AuditCapability parts kind tail u h t = absurd cc
-of_two verb.Notify parts kind tail u h t = absurd cc
-of_two verb.ServiceChange parts kind tail u h t = absurd cc
+of_two v parts kind tail u h t = grind (arith, kept_with)
 
 pub plain_of_one : (v : Verb) (d : Descriptor) → is_usual v ≡ true → HasPlainMedia d → check_code v (d ∷ []) ≡ None
-plain_of_one v (descriptor.Media parts) u h = of_one v parts u h
-plain_of_one v (descriptor.Keep kind tail) u h = absurd h
-plain_of_one v (descriptor.Audit words) u h = absurd h
-plain_of_one v (descriptor.Services parms) u h = absurd h
-plain_of_one v (descriptor.Other word) u h = absurd h
-
-behind_media : (v : Verb) (parts : List MediaPart) (e : Descriptor) → is_usual v ≡ true → IsPlainMedia parts → HasShortTail e → check_code v (descriptor.Media parts ∷ e ∷ []) ≡ None
-behind_media v parts (descriptor.Keep kind tail) u h t = of_two v parts kind tail u h t
-behind_media v parts (descriptor.Media more) u h t = absurd t
-behind_media v parts (descriptor.Audit words) u h t = absurd t
-behind_media v parts (descriptor.Services parms) u h t = absurd t
-behind_media v parts (descriptor.Other word) u h t = absurd t
+plain_of_one v d u h = grind (arith, of_one)
 
 pub plain_of_two : (v : Verb) (d e : Descriptor) → is_usual v ≡ true → HasPlainMedia d → HasShortTail e → check_code v (d ∷ e ∷ []) ≡ None
-plain_of_two v (descriptor.Media parts) e u h t = behind_media v parts e u h t
-plain_of_two v (descriptor.Keep kind tail) e u h t = absurd h
-plain_of_two v (descriptor.Audit words) e u h t = absurd h
-plain_of_two v (descriptor.Services parms) e u h t = absurd h
-plain_of_two v (descriptor.Other word) e u h t = absurd h
+plain_of_two v d e u h t = grind (arith, of_two)

@@ -1,5 +1,5 @@
 -- The reader of a property reads its form.
-use Rattle.std.proofs.Common.{◌≡◌, ◌⊎◌, inl, inr, ℕ, true, false, List, [], ◌++◌, Some, refl, ap, sym, subst, ◌∙◌}
+use Rattle.std.proofs.Common.{◌≡◌, ◌⊎◌, inl, inr, ℕ, true, false, List, [], ◌++◌, Some, refl, ap, sym, subst, ◌∙◌, arith}
 use Rattle.std.proofs.lemmas.Bool.{eqb-true}
 use Rattle.std.proofs.lemmas.List.{append-nil}
 use Rattle.gw_base.specs.Lang.{Both, ◌▹◌}
@@ -56,30 +56,10 @@ not_quoted_reads =
     ])
 
 value_to : (v text : List ℕ) → (Kept IsQuoted v text ⊎ NotQuoted v text) → Kept IsValue v text
-value_to v text h =
-    elim h [
-      | inl q ↦ (q.0, inl q.1)
-      | inr k ↦ elim k [
-        | inl b ↦ (b.0, inr (inl b.1))
-        | inr l ↦ elim l [
-          | inl g ↦ (g.0, inr (inr (inl g.1)))
-          | inr w ↦ (w.0, inr (inr (inr w.1)))
-        ]
-      ]
-    ]
+value_to v text h = grind arith
 
 value_from : (v text : List ℕ) → Kept IsValue v text → (Kept IsQuoted v text ⊎ NotQuoted v text)
-value_from v text h =
-    elim (h.1) [
-      | inl q ↦ inl (h.0, q)
-      | inr k ↦ elim k [
-        | inl b ↦ inr (inl (h.0, b))
-        | inr l ↦ elim l [
-          | inl g ↦ inr (inr (inl (h.0, g)))
-          | inr w ↦ inr (inr (inr (h.0, w)))
-        ]
-      ]
-    ]
+value_from v text h = grind arith
 
 pub value_reads : ReadsUp value_at (Kept IsValue) NoMoreSafe Same Same
 unfolding value_at
@@ -97,17 +77,7 @@ value_reads =
     value_to value_from
 
 value_solid : BeginsWith is_solid (Kept IsValue)
-value_solid v text h =
-    elim (h.1) [
-      | inl q ↦ begins_wider (is_byte quote_mark) is_solid (byte_is_solid quote_mark refl) text (quoted_begins text q)
-      | inr k ↦ elim k [
-        | inl b ↦ begins_wider (is_byte left_bracket) is_solid (byte_is_solid left_bracket refl) text (bracket_begins text b)
-        | inr l ↦ elim l [
-          | inl g ↦ begins_wider (is_byte left_brace) is_solid (byte_is_solid left_brace refl) text (group_begins request_depth text g)
-          | inr w ↦ word_solid text w
-        ]
-      ]
-    ]
+value_solid v text h = grind (arith, begins_wider, bracket_begins, byte_is_solid, group_begins, quoted_begins, word_solid)
 
 -- ---- signs
 
@@ -154,9 +124,7 @@ not_equal_reads =
     ])
 
 alone : (s t : Sign) (text : List ℕ) → Signed s t text → IsSign (sign_byte t) text
-alone s t text b =
-    let whole : b.front ≡ text = sym (append-nil b.front) ∙ ap (λ (x : List ℕ). b.front ++ x) (sym b.second.1) ∙ sym b.split in
-    subst (λ (u : Sign). IsSign (sign_byte u) text) b.second.0 (subst (IsSign (sign_byte s)) whole b.first)
+alone s t text b = grind (arith, append-nil)
 
 signed : (s : Sign) (text : List ℕ) → IsSign (sign_byte s) text → Signed s s text
 signed s text h = record { front = text; back = []; split = sym (append-nil text); first = h; second = (refl, refl) }
@@ -175,10 +143,7 @@ relation_to t text h =
     ]
 
 relation_from : (t : Sign) (text : List ℕ) → IsSign (sign_byte t) text → EqualOn t text
-relation_from Equal text h = inl (signed Equal text h)
-relation_from NotEqual text h = inr (inl (signed NotEqual text h))
-relation_from Less text h = inr (inr (inl (signed Less text h)))
-relation_from Greater text h = inr (inr (inr (refl, h)))
+relation_from t text h = grind (arith, signed)
 
 relation_reads : ReadsUp relation_at (λ t. IsSign (sign_byte t)) Any UpTo Skipped
 unfolding relation_at
@@ -195,10 +160,7 @@ relation_reads =
     relation_to relation_from
 
 sign_not_safe : (s : Sign) → is_safe (sign_byte s) ≡ false
-sign_not_safe Equal = refl
-sign_not_safe NotEqual = refl
-sign_not_safe Less = refl
-sign_not_safe Greater = refl
+sign_not_safe s = grind arith
 
 -- ---- properties
 

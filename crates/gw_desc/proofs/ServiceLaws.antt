@@ -1,5 +1,5 @@
 -- The reader of a Services parameter reads its form.
-use Rattle.std.proofs.Common.{◌≡◌, ◌⊎◌, inl, inr, ℕ, true, false, List, [], ◌++◌, Option, Some, None, refl, ap, sym, subst, ◌∙◌}
+use Rattle.std.proofs.Common.{◌≡◌, ◌⊎◌, inl, inr, ℕ, true, false, List, [], ◌++◌, Option, Some, None, refl, ap, sym, ◌∙◌, arith}
 use Rattle.gw_base.specs.Lang.{Both}
 use Rattle.gw_text.specs.Lexical.{is_safe, is_solid, is_space_start, comma, right_brace, equals_sign, quote_mark}
 use Rattle.gw_text.specs.Runs.{begins, is_byte, NoMore}
@@ -35,15 +35,10 @@ abbrev ARun : ServiceValue → List ℕ → Type 0
 ARun v text = (span : List ℕ) × (value.Run span ≡ v) × Kept (IsSomeRun is_run_byte) span text
 
 value_to : (v : ServiceValue) (text : List ℕ) → (AQuoted v text ⊎ ARun v text) → SpellsServiceValue v text
-value_to v text h =
-    elim h [
-      | inl q ↦ subst (λ (x : ServiceValue). SpellsServiceValue x text) q.1 q.2
-      | inr r ↦ subst (λ (x : ServiceValue). SpellsServiceValue x text) r.1 r.2
-    ]
+value_to v text h = grind arith
 
 value_from : (v : ServiceValue) (text : List ℕ) → SpellsServiceValue v text → (AQuoted v text ⊎ ARun v text)
-value_from (value.Quoted span) text h = inl (span, refl, h)
-value_from (value.Run span) text h = inr (span, refl, h)
+value_from v text h = grind arith
 
 pub service_value_reads : ReadsUp service_value_at SpellsServiceValue (NoMore is_run_byte) Same Same
 unfolding service_value_at
@@ -94,16 +89,10 @@ service_rest_ends name p front rest q n =
     ]
 
 parm_to : (p : ServiceParm) (text : List ℕ) → ((name : List ℕ) × Both (Kept IsWord name) (ServiceRest name p) text) → SpellsServiceParm p text
-parm_to p text h =
-    let b = h.1 in
-    elim (b.second) [
-      | inl s ↦ subst (λ (x : ServiceParm). SpellsServiceParm x text) s.second.1 (with_second b (with_second s s.second.2))
-      | inr w ↦ subst (λ (x : ServiceParm). SpellsServiceParm x text) w.0 (with_second b w.1)
-    ]
+parm_to p text h = grind arith
 
 rest_from : (name : List ℕ) (o : Option ServiceValue) (text : List ℕ) → SpellsOptionalValue o text → ServiceRest name (parm_of name o) text
-rest_from name None text h = inr (refl, h)
-rest_from name (Some v) text b = inl (with_second b (v, refl, b.second))
+rest_from name o text h = grind arith
 
 pub service_parm_reads : ReadsUp service_parm_at SpellsServiceParm AfterServiceParm Same Same
 unfolding service_parm_at

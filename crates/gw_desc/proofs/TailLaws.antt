@@ -1,16 +1,15 @@
 -- The reader of a tail reads its form.
-use Rattle.std.proofs.Common.{◌≡◌, ◌⊎◌, inl, inr, ℕ, Bool, true, false, List, [], ◌++◌, Option, Some, None, refl, ap, sym, subst, ◌∙◌, append-nil}
+use Rattle.std.proofs.Common.{◌≡◌, ◌⊎◌, inl, inr, ℕ, Bool, true, false, List, [], ◌++◌, Option, Some, None, refl, ap, sym, subst, ◌∙◌, append-nil, arith}
 use Rattle.gw_base.specs.Lang.{Both, ◌▹◌}
-use Rattle.gw_text.specs.Lexical.{is_safe, is_solid, equals_sign, left_brace, is_space_start, comma, right_brace}
+use Rattle.gw_text.specs.Lexical.{is_safe, is_solid, equals_sign, left_brace, is_space_start}
 use Rattle.gw_text.specs.Space.{IsSpace}
 use Rattle.gw_text.specs.Runs.{begins, is_byte, NoMore}
 use Rattle.gw_text.specs.Sign.{sign_at}
 use Rattle.gw_text.specs.Forms.{IsWord, IsSign}
 use Rattle.gw_text.specs.Reader.{◌>>=◌, group_read, if_begins, word_read}
 use Rattle.gw_text.proofs.FormLaws.{no_space, sign_ends, sign_other, BeginsWith, begins_wider, byte_is_solid, both_split, safe_apart, both_begins, both_ends, both_other, begins_ends, with_second, group_begins, ahead_ends}
-use Rattle.gw_text.proofs.ReaderLaws.{ReadsUp, Same, Skipped, Any, up_as, up_next, up_skipped, up_then, up_last, up_done, up_if_sign, up_if_ahead, up_if_begins, same_up, up_shrinks, up_group}
+use Rattle.gw_text.proofs.ReaderLaws.{ReadsUp, Same, Skipped, Any, up_as, up_next, up_skipped, up_then, up_last, up_done, up_if_sign, up_if_ahead, up_if_begins, same_up, up_group}
 use Rattle.gw_desc.specs.declared.descriptor.Tail.{Tail}
-use Rattle.gw_text.specs.Parts.{Shrinks}
 use Rattle.gw_desc.specs.Grammar.{Kept, request_depth, SpellsGroup, SpellsOptionalWord, SpellsEquals, SpellsOptionalGroup, IsThere, SpellsTail}
 use Rattle.gw_desc.specs.Reading.{optional_group_at, group_tail_at, word_tail_at, bare_tail_at, tail_at, AfterTail}
 use Rattle.gw_desc.proofs.Texts.{first_two, last_two, with_first_part, sign_takes_space, ahead_other, safe_is_not, word_reads, kept_solid, kept_begins}
@@ -28,15 +27,10 @@ abbrev pub WithoutGroup : List ℕ → Type 0
 WithoutGroup rest = sign_at left_brace rest ≡ None
 
 optional_to : (o : Option (List ℕ)) (text : List ℕ) → (Both IsSpace (AGroup o) text ⊎ NoGroup o text) → SpellsOptionalGroup o text
-optional_to o text h =
-    elim h [
-      | inl b ↦ subst (λ (p : Option (List ℕ)). SpellsOptionalGroup p text) b.second.1 (with_second b b.second.2)
-      | inr n ↦ subst (λ (p : Option (List ℕ)). SpellsOptionalGroup p text) n.0 n.1
-    ]
+optional_to o text h = grind arith
 
 optional_from : (o : Option (List ℕ)) (text : List ℕ) → SpellsOptionalGroup o text → (Both IsSpace (AGroup o) text ⊎ NoGroup o text)
-optional_from None text h = inr (refl, h)
-optional_from (Some g) text h = inl (with_second h (g, refl, h.second))
+optional_from o text h = grind arith
 
 pub optional_group_reads : ReadsUp optional_group_at SpellsOptionalGroup WithoutGroup Same Same
 unfolding optional_group_at
@@ -150,9 +144,6 @@ tail_reads =
     (λ t front rest q n. group_other equals_sign refl q.0 front rest q.2 n.equals))
     tail_to (λ t text h. parts_from t.equals t.word t.group text h.words h.behind h.some)
 
-pub tail_shrinks : Shrinks tail_at
-tail_shrinks = up_shrinks tail_reads
-
 -- a sign of another kind may follow a tail
 pub sign_after_tail : (b : ℕ) → is_space_start b ≡ false → is_safe b ≡ false → is_byte equals_sign b ≡ false → is_byte left_brace b ≡ false → (front more : List ℕ) → IsSign b front → AfterTail (front ++ more)
 sign_after_tail b solid safe equals brace front more h = record {
@@ -160,12 +151,6 @@ sign_after_tail b solid safe equals brace front more h = record {
   equals = sign_other b equals_sign front more solid equals h;
   group = sign_other b left_brace front more solid brace h;
 }
-
-pub comma_after_tail : (front more : List ℕ) → IsSign comma front → AfterTail (front ++ more)
-comma_after_tail = sign_after_tail comma refl refl refl refl
-
-pub brace_after_tail : (front more : List ℕ) → IsSign right_brace front → AfterTail (front ++ more)
-brace_after_tail = sign_after_tail right_brace refl refl refl refl
 
 -- ---- what a tail does not go on with
 

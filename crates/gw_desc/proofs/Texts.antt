@@ -1,9 +1,9 @@
 -- Texts of two forms and more.
-use Rattle.std.proofs.Common.{◌≡◌, ℕ, true, false, List, [], ◌∷◌, ◌++◌, Some, None, refl, ap, sym, ◌∙◌, append_assoc}
-use Rattle.std.specs.List.{concat}
+use Rattle.std.proofs.Common.{◌≡◌, ℕ, true, false, List, [], ◌∷◌, ◌++◌, Some, None, refl, ap, sym, ◌∙◌, append_assoc, arith}
+use Rattle.std.proofs.lemmas.List.Folds.{concat-append}
 use Rattle.gw_base.specs.Lang.{Both, ◌▹◌}
 use Rattle.gw_text.specs.Lexical.{is_safe, is_solid}
-use Rattle.gw_text.specs.Space.{IsSpacePiece, Each, IsSpace}
+use Rattle.gw_text.specs.Space.{Each, IsSpace}
 use Rattle.gw_text.specs.Runs.{begins, is_byte, NoMore}
 use Rattle.gw_text.specs.Sign.{sign_at}
 use Rattle.gw_text.specs.Forms.{IsWord, IsSign}
@@ -25,44 +25,24 @@ first_two b = let c = b.second in record {
 }
 
 pub last_two : {P Q R : List ℕ → Type 0} {text : List ℕ} → Both (Both P Q) R text → Both P (Both Q R) text
-last_two b = let c = b.first in record {
-  front = c.front;
-  back = c.back ++ b.back;
-  split = b.split ∙ ap (λ (x : List ℕ). x ++ b.back) c.split ∙ append_assoc c.front c.back b.back;
-  first = c.first;
-  second = record { front = c.back; back = b.back; split = refl; first = c.second; second = b.second };
-}
+last_two b = grind (arith, append_assoc)
 
 -- the same text, where its first part has another form too
-pub with_first_part : {P Q R : List ℕ → Type 0} {text : List ℕ} (b : Both P Q text) → R b.front → Both R Q text
+abbrev pub with_first_part : {P Q R : List ℕ → Type 0} {text : List ℕ} (b : Both P Q text) → R b.front → Both R Q text
 with_first_part b x = record { front = b.front; back = b.back; split = b.split; first = x; second = b.second }
 
 -- ---- white space
-
-concat_both : (xs ys : List (List ℕ)) → concat (xs ++ ys) ≡ concat xs ++ concat ys
-concat_both [] ys = refl
-concat_both (x ∷ xs) ys = ap (λ (t : List ℕ). x ++ t) (concat_both xs ys) ∙ sym (append_assoc x (concat xs) (concat ys))
 
 each_both : (P : List ℕ → Type 0) (xs ys : List (List ℕ)) → Each P xs → Each P ys → Each P (xs ++ ys)
 each_both P [] ys h g = g
 each_both P (x ∷ xs) ys h g = (h.0, each_both P xs ys h.1 g)
 
 pub space_both : (front back : List ℕ) → IsSpace front → IsSpace back → IsSpace (front ++ back)
-space_both front back h g = record {
-  pieces = h.pieces ++ g.pieces;
-  whole = ap (λ (x : List ℕ). x ++ back) h.whole ∙ ap (λ (x : List ℕ). concat h.pieces ++ x) g.whole ∙ sym (concat_both h.pieces g.pieces);
-  each = each_both IsSpacePiece h.pieces g.pieces h.each g.each;
-}
+space_both front back h g = grind (arith, each_both, concat-append)
 
 -- a sign takes the white space behind it
 pub sign_both : (b : ℕ) (front back : List ℕ) → IsSign b front → IsSpace back → IsSign b (front ++ back)
-sign_both b front back h g = let c = h.second in record {
-  front = h.front;
-  back = h.back ++ back;
-  split = ap (λ (x : List ℕ). x ++ back) h.split ∙ append_assoc h.front h.back back;
-  first = h.first;
-  second = record { front = c.front; back = c.back ++ back; split = ap (λ (x : List ℕ). x ++ back) c.split ∙ append_assoc c.front c.back back; first = c.first; second = space_both c.back back c.second g };
-}
+sign_both b front back h g = grind (arith, space_both, append_assoc)
 
 -- behind a sign no white space is left over
 pub sign_takes_space : {Q : List ℕ → Type 0} {text : List ℕ} (b : ℕ) → Both (IsSign b) (IsSpace ▹ Q) text → Both (IsSign b) Q text

@@ -1,13 +1,10 @@
 -- A word that is a token is as long as a form of it, and begins with the same letter.
-use Rattle.std.proofs.Common.{◌≡◌, ℕ, ◌==◌, ◌||◌, ◌&&◌, not, cond, Bool, true, false, List, [], ◌∷◌, length, map, Option, Some, None, refl, ap, sym, ◌∙◌, arith}
-use Rattle.std.specs.Char.{to_ascii_lowercase}
-use Rattle.std.proofs.lemmas.Bool.{or_from, or_parts}
+use Rattle.std.proofs.Common.{◌≡◌, ℕ, ◌==◌, ◌||◌, ◌&&◌, not, cond, Bool, true, false, List, [], ◌∷◌, length, Option, Some, None, refl, sym, ◌∙◌, arith}
+use Rattle.std.proofs.lemmas.Bool.{or_from, or_parts, false_from_ne_true, eq-eqb, and_parts}
 use Rattle.std.proofs.lemmas.List.{length-map}
-use Rattle.std.proofs.lemmas.Bool.Decides.{nat_tests}
 use Rattle.std.proofs.lemmas.Slice.Eq.{bytes_eq-Decides}
 use Rattle.std.specs.Prelude.{codes}
 use Rattle.gw_base.specs.Bytes.{byte}
-use Rattle.gw_text.specs.Runs.{begins, is_byte}
 use Rattle.gw_text.specs.TokenTable.{begins_in}
 use Rattle.gw_text.specs.Tokens.{Spelling, table, is_same_word, is_spelling, find_token, token_of}
 use Rattle.gw_text.specs.declared.token.Token.{Token}
@@ -18,25 +15,9 @@ abbrev has_form : (Option Token → Bool) → ℕ → List Spelling → Bool
 has_form passes n [] = false
 has_form passes n (s ∷ rest) = (passes (Some s.token) && (n == length s.long || n == length s.short)) || has_form passes n rest
 
-itself : (n : ℕ) → n == n ≡ true
-itself n = grind (arith, nat_tests)
-
-not_true : (t : Bool) → (t ≡ true → ⊥) → t ≡ false
-not_true false h = refl
-not_true true h = absurd (h refl)
-
-other_form : (word form : List ℕ) → length word == length form ≡ false → is_same_word word form ≡ false
-other_form word form h =
-    not_true (is_same_word word form) (λ same.
-    let folded : map to_ascii_lowercase word ≡ map to_ascii_lowercase form = (bytes_eq-Decides (map to_ascii_lowercase word) (map to_ascii_lowercase form)).0 same in
-    let long : length word ≡ length form = sym (length-map word to_ascii_lowercase) ∙ ap length folded ∙ length-map form to_ascii_lowercase in
-    let clash : true ≡ false = sym (itself (length form)) ∙ ap (λ n. n == length form) (sym long) ∙ h in absurd cc)
-
 other_spelling : (word : List ℕ) (s : Spelling) → (length word == length s.long || length word == length s.short) ≡ false → is_spelling s.long s.short word ≡ false
 unfolding is_spelling
-other_spelling word s h =
-    let parts = or_parts (length word == length s.long) (length word == length s.short) h in
-    or_from (is_same_word word s.long) (is_same_word word s.short) (other_form word s.long parts.0) (other_form word s.short parts.1)
+other_spelling word s h = grind (arith, or_from, or_parts, bytes_eq-Decides, eq-eqb, false_from_ne_true, length-map)
 
 not_found : (passes : Option Token → Bool) (word : List ℕ) (rows : List Spelling) → passes None ≡ false → has_form passes (length word) rows ≡ false → passes (find_token word rows) ≡ false
 not_found passes word [] none h = none
@@ -66,16 +47,8 @@ abbrev all_in : (Option Token → Bool) → ℕ → List Spelling → Bool
 all_in passes letter [] = true
 all_in passes letter (s ∷ rest) = (not (passes (Some s.token)) || (begins_in letter s.long && begins_in letter s.short)) && all_in passes letter rest
 
-two : (a b : Bool) → (a && b) ≡ true → (a ≡ true) × (b ≡ true)
-two true true h = (refl, refl)
-two true false h = absurd cc
-two false b h = absurd cc
-
 other_letter : (letter : ℕ) (word form : List ℕ) → begins_in letter form ≡ true → begins_in letter word ≡ false → is_same_word word form ≡ false
-other_letter letter word form is other =
-    not_true (is_same_word word form) (λ same.
-    let folded : map to_ascii_lowercase word ≡ map to_ascii_lowercase form = (bytes_eq-Decides (map to_ascii_lowercase word) (map to_ascii_lowercase form)).0 same in
-    let clash : true ≡ false = sym is ∙ sym (ap (begins (is_byte letter)) folded) ∙ other in absurd cc)
+other_letter letter word form is other = grind arith
 
 unspelled : (word : List ℕ) (s : Spelling) → is_same_word word s.long ≡ false → is_same_word word s.short ≡ false → is_spelling s.long s.short word ≡ false
 unfolding is_spelling
@@ -85,7 +58,7 @@ not_there : (passes : Option Token → Bool) (letter : ℕ) (word : List ℕ) (r
     → passes (find_token word rows) ≡ false
 not_there passes letter word [] none other h = none
 not_there passes letter word (s ∷ rest) none other h =
-    let parts = two (not (passes (Some s.token)) || (begins_in letter s.long && begins_in letter s.short)) (all_in passes letter rest) h in
+    let parts = and_parts (not (passes (Some s.token)) || (begins_in letter s.long && begins_in letter s.short)) (all_in passes letter rest) h in
     by (passes (Some s.token)) (is_spelling s.long s.short word) refl refl parts.0 (not_there passes letter word rest none other parts.1)
   where
     by : (p t : Bool) → passes (Some s.token) ≡ p → is_spelling s.long s.short word ≡ t → (not p || (begins_in letter s.long && begins_in letter s.short)) ≡ true
@@ -93,7 +66,7 @@ not_there passes letter word (s ∷ rest) none other h =
     by p false e f k later = later
     by false true e f k later = e
     by true true e f k later =
-        let forms = two (begins_in letter s.long) (begins_in letter s.short) k in
+        let forms = and_parts (begins_in letter s.long) (begins_in letter s.short) k in
         let clash : true ≡ false = sym f ∙ unspelled word s (other_letter letter word s.long forms.0 other) (other_letter letter word s.short forms.1 other) in absurd cc
 
 pub no_mode_in : (name : List ℕ) → begins_in (byte (codes "m")) name ≡ false → is_mode name ≡ false

@@ -35,7 +35,7 @@ impl<'a> Parse<'a> for Descriptor<'a> {
 
     ghost fits = { Prim.search arith };
 
-    #[tactic(auto, unfolding(crate::specs::Reading::descriptor_at))]
+    #[tactic(auto, using(crate::proofs::DescriptorLaws::parts_shrink), unfolding(crate::specs::Reading::descriptor_at))]
     fn read(bump: &'a Bump, cursor: &mut Cursor<'a>) -> Result<Descriptor<'a>, ParseFault> {
         let (word, token) = cursor.named()?;
         match token {

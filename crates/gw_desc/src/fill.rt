@@ -40,6 +40,7 @@ fn is_choice(field: &[u8], place: usize) -> bool
 }
 
 /// Where the field of this place begins, if it is `$`.
+#[tactic(auto, using(crate::proofs::FillRuns::other_fields))]
 fn choice_in(line: &[u8], place: usize) -> Option<usize>
     ensures { MatchOption result (has_choose place line.now ≡ false) (λ at. IsChoiceAt place at line.now) }
 {
@@ -79,6 +80,7 @@ fn choice_of<'a>(line: &[u8], address: &'a [u8], port: &'a [u8]) -> Option<(usiz
 }
 
 /// How long the first line is, if it has an end.
+#[tactic(auto, using(crate::proofs::FillRuns::no_end, crate::proofs::FillRuns::clean_before))]
 fn line_len(text: &[u8]) -> Option<usize>
     ensures none { IfNone result (list_any (is_one_of line_ends) text.now ≡ false) }
     ensures within { IfSome result (λ len. len < length text.now) }
@@ -124,6 +126,7 @@ fn behind(text: &[u8], place: usize) -> &[u8]
 
 /// The text goes behind what was written: what stands before this place as it is, and behind it the last line, filled;
 /// whether that had a `$` to fill.
+#[tactic(auto, using(crate::proofs::FillRuns::last_line))]
 fn write_last(
     text: &[u8],
     same: usize,

@@ -34,6 +34,7 @@ fn octets<'a>(cursor: &mut Cursor<'a>) -> Result<Span<'a>, ParseFault>
 }
 
 /// What follows the word of a part of a stream.
+#[tactic(auto, using(crate::proofs::PropertyLaws::property_shrinks))]
 fn stream_part<'a>(
     bump: &'a Bump,
     cursor: &mut Cursor<'a>,
@@ -62,7 +63,7 @@ impl<'a> Parse<'a> for StreamPart<'a> {
 }
 
 /// What follows the word `Stream`: its number and its parts.
-#[tactic(auto, unfolding(crate::specs::Reading::stream_at))]
+#[tactic(auto, using(crate::proofs::MediaLaws::stream_part_shrinks), unfolding(crate::specs::Reading::stream_at))]
 fn stream<'a>(bump: &'a Bump, cursor: &mut Cursor<'a>) -> Result<MediaPart<'a>, ParseFault>
     ensures { Gives result cursor.new (stream_at cursor.old) }
 {
@@ -77,7 +78,7 @@ impl<'a> Parse<'a> for MediaPart<'a> {
 
     ghost fits = { Prim.search arith };
 
-    #[tactic(auto, unfolding(crate::specs::Reading::media_part_at))]
+    #[tactic(auto, using(crate::proofs::PropertyLaws::property_shrinks), unfolding(crate::specs::Reading::media_part_at))]
     fn read(bump: &'a Bump, cursor: &mut Cursor<'a>) -> Result<MediaPart<'a>, ParseFault> {
         match token(cursor)? {
             Token::Stream => stream(bump, cursor),

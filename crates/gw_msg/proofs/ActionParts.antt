@@ -1,5 +1,6 @@
 -- The contents of an action, taken apart in front of the first comma: a property, and what is behind it.
-use Rattle.std.proofs.Common.{◌⊎◌, inl, inr, ℕ, List, [], ◌∷◌, ◌++◌, refl, ap, sym, ◌∙◌, append_assoc}
+use Rattle.std.proofs.lemmas.Grind.{common_steps}
+use Rattle.std.proofs.Common.{◌⊎◌, inl, inr, ℕ, List, [], ◌∷◌, ◌++◌, refl, ap, sym, ◌∙◌, append_assoc, arith}
 use Rattle.gw_base.specs.Lang.{Both, ◌▹◌}
 use Rattle.gw_text.specs.Lexical.{comma}
 use Rattle.gw_text.specs.Forms.{IsSign}
@@ -28,15 +29,7 @@ front_of p x = (p ∷ x.0, x.1)
 -- ---- three texts behind one another
 
 behind_both : {P Q R : List ℕ → Type 0} (text : List ℕ) → ((P ▹ Q) ▹ R) text → (P ▹ Q ▹ R) text
-behind_both text h =
-    let b = h.first in
-    record {
-      front = b.front;
-      back = b.back ++ h.back;
-      split = h.split ∙ ap (λ (x : List ℕ). x ++ h.back) b.split ∙ append_assoc b.front b.back h.back;
-      first = b.first;
-      second = record { front = b.back; back = h.back; split = refl; first = b.second; second = h.second };
-    }
+behind_both text h = grind (arith, common_steps)
 
 both_behind : {P Q R : List ℕ → Type 0} (text : List ℕ) → (P ▹ Q ▹ R) text → ((P ▹ Q) ▹ R) text
 both_behind text h =

@@ -1,5 +1,6 @@
 -- The contents of an action as a loop reads them: the properties that were read before, and what is still read.
-use Rattle.std.proofs.Common.{◌≡◌, ℕ, zero, suc, ◌<◌, Bool, true, false, cond, List, [], ◌∷◌, ◌++◌, length, Option, Some, None, Err, refl, ap, sym, ◌∙◌, append_assoc, arith}
+use Rattle.std.proofs.lemmas.Grind.{common_steps}
+use Rattle.std.proofs.Common.{◌≡◌, ℕ, zero, suc, ◌<◌, true, false, cond, List, [], ◌∷◌, ◌++◌, length, Option, Some, None, Err, refl, ap, sym, ◌∙◌, append_assoc, arith}
 use Rattle.std.proofs.lemmas.List.{append-nil}
 use Rattle.gw_text.specs.Lexical.{comma}
 use Rattle.gw_text.specs.Runs.{begins}
@@ -27,10 +28,6 @@ with_front front (Some x) = Some ((front ++ x.0.0, x.0.1), x.1)
 -- a property in front of what is still read
 abbrev one_more : ContextProp → Found → Found
 one_more p o = o >>= λ x. Some (front_of p x.0, x.1)
-
-no_front : (o : Found) → with_front [] o ≡ o
-no_front None = refl
-no_front (Some x) = refl
 
 front_first : (front : List ContextProp) (p : ContextProp) (o : Found) → with_front front (one_more p o) ≡ with_front (front ++ p ∷ []) o
 front_first front p None = refl
@@ -64,7 +61,7 @@ on_property fuel o = o >>= λ x. if_sign comma (behind_property x.0 (contents_fr
 
 property_step : (text : List ℕ) → begins is_context_property_start text ≡ true → contents_at text ≡ on_property (length text) (context_property_at text)
 unfolding contents_from
-property_step text is = ap (λ (t : Bool). cond t (on_property (length text) (context_property_at text)) (commands_alone_at text)) is
+property_step text is = grind (arith, common_steps)
 
 -- a property was read, and a comma behind it
 pub goes_on : (front : List ContextProp) (text rest more : List ℕ) (p : ContextProp) (total : Found) → begins is_context_property_start text ≡ true → context_property_at text ≡ Some (p, rest) → sign_at comma rest ≡ Some more
@@ -79,8 +76,7 @@ goes_on front text rest more p total is e c so_far =
 -- a property was read, and no comma behind it
 pub ends : (front : List ContextProp) (text rest : List ℕ) (p : ContextProp) (total : Found) → begins is_context_property_start text ≡ true → context_property_at text ≡ Some (p, rest) → sign_at comma rest ≡ None
     → with_front front (contents_at text) ≡ total → total ≡ Some ((front ++ p ∷ [], []), rest)
-ends front text rest p total is e c so_far =
-    sym so_far ∙ ap (with_front front) (property_step text is ∙ ap (on_property (length text)) e ∙ ap (λ (o : Option (List ℕ)). or_else o (behind_property p (contents_from (length text))) (Some (one_of p, rest))) c)
+ends front text rest p total is e c so_far = grind (arith, property_step, one_of)
 
 -- no property was read
 pub fails : (fault : ParseFault) (front : List ContextProp) (text after end : List ℕ) (total : Found) → begins is_context_property_start text ≡ true → Gives {V = ContextProp} (Err fault) after (context_property_at text)
@@ -91,23 +87,19 @@ fails NoMemory front text after end total is e so_far = tt
 -- there are no more properties
 no_property : (text : List ℕ) → begins is_context_property_start text ≡ false → contents_at text ≡ commands_alone_at text
 unfolding contents_from
-no_property text is = ap (λ (t : Bool). cond t (on_property (length text) (context_property_at text)) (commands_alone_at text)) is
+no_property text is = grind (arith, common_steps)
 
 abbrev alone : Option (List Command × List ℕ) → Found
 alone o = o >>= λ x. Some (alone_of x.0, x.1)
 
 pub commands_end : (front : List ContextProp) (text after : List ℕ) (commands : List Command) (total : Found) → begins is_context_property_start text ≡ false → list_at command_at text ≡ Some (commands, after)
     → with_front front (contents_at text) ≡ total → total ≡ Some ((front, commands), after)
-commands_end front text after commands total is e so_far =
-    sym so_far ∙ ap (with_front front) (no_property text is ∙ ap alone e) ∙ ap (λ (ps : List ContextProp). Some ((ps, commands), after)) (append-nil front)
+commands_end front text after commands total is e so_far = grind (arith, no_property, append-nil)
 
 pub commands_fail : (fault : ParseFault) (front : List ContextProp) (text after end : List ℕ) (total : Found) → begins is_context_property_start text ≡ false → Gives {V = List Command} (Err fault) after (list_at command_at text)
     → with_front front (contents_at text) ≡ total → Gives {V = Contents} (Err fault) end total
 commands_fail Syntax front text after end total is e so_far = sym so_far ∙ ap (with_front front) (no_property text is ∙ ap alone e)
 commands_fail NoMemory front text after end total is e so_far = tt
-
-pub begins_all : (text : List ℕ) → with_front [] (contents_at text) ≡ contents_at text
-begins_all text = no_front (contents_at text)
 
 pub read_less : (text rest more : List ℕ) (p : ContextProp) → context_property_at text ≡ Some (p, rest) → sign_at comma rest ≡ Some more → length more < length text
 read_less text rest more p e c = omega (arith, context_property_shrinks text p rest e, sign_shrinks comma rest more c)

@@ -1,5 +1,5 @@
 -- The readers of what an action asks of its context itself read their forms.
-use Rattle.std.proofs.Common.{◌≡◌, ℕ, List, ◌++◌, Option, Some, None, refl, ap, subst, ◌∙◌}
+use Rattle.std.proofs.Common.{◌≡◌, ℕ, List, ◌++◌, Option, Some, None, refl, ap, subst, ◌∙◌, arith, rules}
 use Rattle.gw_base.specs.Bytes.{is_digit}
 use Rattle.gw_base.specs.Lang.{Both, ◌▹◌}
 use Rattle.gw_base.specs.declared.term_ref.TermRef.{TermRef}
@@ -26,7 +26,7 @@ use Rattle.gw_msg.specs.Grammar.{SpellsTerm, priority_digits, priority_max, IsPr
 use Rattle.gw_msg.specs.Words.{flow_for, flow_of, context_item_for, context_item_of, is_context_property_start}
 use Rattle.gw_msg.specs.NameWords.{term_of}
 use Rattle.gw_msg.specs.Reading.{triple_at, context_item_at, priority_at, property_rest, context_property_at}
-use Rattle.gw_msg.proofs.Starts.{topology_starts, priority_starts, emergency_starts, context_audit_starts}
+use Rattle.gw_msg.proofs.Starts.{small_property, token_fits}
 use Rattle.gw_msg.proofs.Steps.{Done, nothing_more, nothing_behind, behind_sign, no_digit}
 use Rattle.gw_msg.proofs.WordLaws.{any_token_reads, token_solid, term_reads, term_solid}
 
@@ -111,9 +111,7 @@ abbrev FirstPart : Triple → List ℕ → Type 0
 FirstPart t text = (a : TermRef) × Both (SpellsTerm a) (IsSign comma ▹ SecondPart a t) text
 
 triple_to : (t : Triple) (text : List ℕ) → FirstPart t text → SpellsTriple t text
-triple_to t text h =
-    let a = h.1 in let c = a.second in let b = c.second.1 in let d = b.second in let f = d.second in
-    subst (λ (u : Triple). SpellsTriple u text) f.1 (with_second a (with_second c (with_second b (with_second d f.2))))
+triple_to t text h = grind (arith, with_second)
 
 triple_from : (t : Triple) (text : List ℕ) → SpellsTriple t text → FirstPart t text
 triple_from t text a =
@@ -133,10 +131,7 @@ pub triple_shrinks : Shrinks triple_at
 triple_shrinks = up_shrinks triple_reads
 
 triple_braces : BracesUp SpellsTriple (NoMore is_safe)
-triple_braces = record {
-  lists = record { next = λ front more sign. sign_ends is_safe comma front more safe_apart refl sign; begins = λ t text h. both_begins is_solid (SpellsTerm t.a) _ (term_solid t.a) text h };
-  closes = λ front more sign. sign_ends is_safe right_brace front more safe_apart refl sign;
-}
+triple_braces = search (rules, sign_ends, safe_apart, both_begins, term_solid)
 
 -- ---- a Priority
 
@@ -196,7 +191,7 @@ pub context_property_solid : BeginsWith is_solid SpellsContextProperty
 context_property_solid p text h = let s = property_from p text h in both_begins is_solid (IsToken s.0) (PropertyRest s.0 p) (token_solid s.0) text s.1
 
 pub context_property_begins : BeginsWith is_context_property_start SpellsContextProperty
-context_property_begins (property.Priority n) text b = both_begins is_context_property_start (IsToken token.Priority) _ priority_starts text b
-context_property_begins property.Emergency text h = emergency_starts text h
-context_property_begins (property.Topology list) text b = both_begins is_context_property_start (IsToken token.Topology) _ topology_starts text b
-context_property_begins (property.ContextAudit list) text b = both_begins is_context_property_start (IsToken token.ContextAudit) _ context_audit_starts text b
+context_property_begins (property.Priority n) text b = both_begins is_context_property_start (IsToken token.Priority) _ (λ w h. small_property w (token_fits w token.Priority h.stands)) text b
+context_property_begins property.Emergency text h = small_property text (token_fits text token.Emergency h.stands)
+context_property_begins (property.Topology list) text b = both_begins is_context_property_start (IsToken token.Topology) _ (λ w h. small_property w (token_fits w token.Topology h.stands)) text b
+context_property_begins (property.ContextAudit list) text b = both_begins is_context_property_start (IsToken token.ContextAudit) _ (λ w h. small_property w (token_fits w token.ContextAudit h.stands)) text b

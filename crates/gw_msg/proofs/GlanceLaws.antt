@@ -1,15 +1,12 @@
 -- What is kept of a request whose tree is let go: where its text begins, and where it ends.
-use Rattle.std.proofs.Common.{◌≡◌, ◌≤◌, ℕ, List, length, Some, Err, ap, sym, ◌∙◌, length-append, arith}
+use Rattle.std.proofs.Common.{◌≡◌, ◌≤◌, ℕ, List, length, Some, ap, sym, ◌∙◌, length-append, arith}
 use Rattle.gw_base.specs.declared.ids.TxId.{TxId}
 use Rattle.gw_text.specs.Longest.{IsAhead}
-use Rattle.gw_text.specs.Parts.{Gives}
-use Rattle.gw_text.specs.declared.fault.ParseFault.{ParseFault}
-use Rattle.gw_text.specs.declared.fault.ParseFault.TheVariants.{Syntax, NoMemory}
 use Rattle.gw_text.proofs.Ahead.{one_ahead}
 use Rattle.gw_msg.specs.declared.message.Request.{Request}
 use Rattle.gw_msg.specs.declared.message.Item.TheVariants as item
 use Rattle.gw_msg.specs.ActionReading.{request_tree_at}
-use Rattle.gw_msg.specs.RequestSources.{IsText, HasGlance, Glances, request_from}
+use Rattle.gw_msg.specs.RequestSources.{IsText, HasGlance, request_from}
 use Rattle.gw_msg.proofs.PassageLaws.{as_item, item_of_tree, from_its_text, begins_itself}
 use Rattle.gw_msg.proofs.ItemLaws.{request_reads}
 
@@ -19,14 +16,8 @@ tree_ahead text r rest e =
     let s = request_reads.sound text (item.Request r) rest (item_of_tree text ∙ ap as_item e) in
     (s.0, s.1)
 
-pub glance_fails : (fault : ParseFault) (new text : List ℕ) → Gives {V = Request} (Err fault) new (request_tree_at text) → Glances (Err fault) text
-glance_fails Syntax new text h = h
-glance_fails NoMemory new text h = tt
-
 pub glanced_within : (text : List ℕ) (id : TxId) (left : ℕ) → HasGlance text id left → left ≤ length text
-glanced_within text id left h =
-    let a = tree_ahead text h.request h.rest h.is_read in
-    omega (arith, h.behind, ap length a.1 ∙ length-append a.0 h.rest)
+glanced_within text id left h = grind (arith, tree_ahead, length-append)
 
 -- where as much is left, the request ends
 pub glanced_there : (text new : List ℕ) (id : TxId) (left : ℕ) → HasGlance text id left → IsAhead text new → length new ≡ left → request_tree_at text ≡ Some (request_from text, new)
@@ -39,7 +30,3 @@ pub glanced_text : (text : List ℕ) (id : TxId) (left : ℕ) → HasGlance text
 glanced_text text id left h =
     let own = begins_itself text h.request (record { rest = h.rest; is_read = h.is_read }) in
     record { number = h.number ∙ own.number; begins = own.begins }
-
-pub skim_fails : (fault : ParseFault) (new text : List ℕ) → Glances (Err fault) text → Gives {V = Request} (Err fault) new (request_tree_at text)
-skim_fails Syntax new text h = h
-skim_fails NoMemory new text h = tt

@@ -1,5 +1,6 @@
 -- The reader of a header reads its form.
-use Rattle.std.proofs.Common.{◌≡◌, ◌⊎◌, inl, inr, ℕ, Bool, true, false, ◌==◌, List, [], ◌∷◌, ◌++◌, Some, None, refl, ap, subst, ◌∙◌}
+use Rattle.std.proofs.lemmas.Grind.{common_steps}
+use Rattle.std.proofs.Common.{◌≡◌, ◌⊎◌, inl, inr, ℕ, Bool, true, false, ◌==◌, List, [], ◌∷◌, ◌++◌, Some, None, refl, ap, subst, arith}
 use Rattle.std.specs.Prelude.{codes}
 use Rattle.std.specs.Char.{to_ascii_lowercase}
 use Rattle.std.proofs.lemmas.Bool.{eq-eqb}
@@ -57,9 +58,7 @@ unfolding prefix_at
 no_long more = refl
 
 short_is_not_long : (n : ℕ) (front rest : List ℕ) → Short n front → prefix_at (codes "MEGACO") (front ++ rest) ≡ None
-short_is_not_long n front rest b =
-    ap (prefix_at (codes "MEGACO")) (both_split (IsText (codes "!")) (SlashNumber n) front rest b ∙ ap (λ (x : List ℕ). x ++ (b.back ++ rest)) b.first)
-    ∙ no_long (b.back ++ rest)
+short_is_not_long n front rest b = grind (arith, both_split, no_long)
 
 -- `M` in either case begins no white space
 abbrev is_m : ℕ → Bool
@@ -93,18 +92,10 @@ abbrev Token : ℕ → List ℕ → Type 0
 Token n = IsMegacop ▹ SlashNumber n
 
 token_to : (n : ℕ) (text : List ℕ) → (Long n text ⊎ Short n text) → Token n text
-token_to n text h =
-    elim h [
-      | inl b ↦ record { front = b.front; back = b.back; split = b.split; first = inl b.first; second = b.second }
-      | inr b ↦ record { front = b.front; back = b.back; split = b.split; first = inr b.first; second = b.second }
-    ]
+token_to n text h = grind (arith, common_steps)
 
 token_from : (n : ℕ) (text front back : List ℕ) → text ≡ front ++ back → IsMegacop front → SlashNumber n back → (Long n text ⊎ Short n text)
-token_from n text front back split first second =
-    elim first [
-      | inl h ↦ inl (record { front = front; back = back; split = split; first = h; second = second })
-      | inr h ↦ inr (record { front = front; back = back; split = split; first = h; second = second })
-    ]
+token_from n text front back split first second = grind (arith, common_steps)
 
 pub header_reads : ReadsUp header_at IsHeader Any UpTo Skipped
 unfolding header_at

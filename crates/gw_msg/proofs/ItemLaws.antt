@@ -1,11 +1,12 @@
 -- The readers of items, of errors and of the whole body read their forms.
-use Rattle.std.proofs.Common.{◌≡◌, ◌⊎◌, inl, inr, ℕ, Bool, true, false, List, [], ◌∷◌, ◌++◌, length, Option, Some, None, refl, ap, sym, subst, ◌∙◌, length-append, append_assoc, arith}
+use Rattle.std.proofs.lemmas.Grind.{common_steps}
+use Rattle.std.proofs.Common.{◌≡◌, ◌⊎◌, inl, inr, ℕ, Bool, true, false, List, [], ◌∷◌, ◌++◌, Option, Some, None, refl, ap, sym, subst, ◌∙◌, length-append, append_assoc, arith, rules}
 use Rattle.std.proofs.lemmas.List.{append-nil}
 use Rattle.std.proofs.lemmas.Bool.{not-true, eqb-true}
 use Rattle.std.specs.Prelude.{codes}
 use Rattle.gw_base.specs.Bytes.{is_digit}
 use Rattle.gw_base.specs.Lang.{Both, ◌▹◌, IsText}
-use Rattle.gw_text.specs.Lexical.{is_safe, is_solid, comma, dash, equals_sign, left_brace, right_brace, quote_mark}
+use Rattle.gw_text.specs.Lexical.{is_safe, is_solid, dash, equals_sign, left_brace, right_brace, quote_mark}
 use Rattle.gw_text.specs.Space.{IsSpace, IsSep}
 use Rattle.gw_text.specs.SpaceScan.{skip}
 use Rattle.gw_text.specs.Runs.{begins, is_byte, NoMore}
@@ -18,9 +19,10 @@ use Rattle.gw_text.specs.Tokens.{token_of}
 use Rattle.gw_text.specs.Reader.{Reader, ◌>>=◌, found, word_as, solid_as, number_at, number_up_to, group_read, quoted_read, if_end, braced_at, items_at}
 use Rattle.gw_text.specs.declared.token.Token.{Token}
 use Rattle.gw_text.specs.declared.token.Token.TheVariants as token
-use Rattle.gw_text.proofs.FormLaws.{skip_is, skip_stays, some_is, sign_ends, sign_other, sign_none, BeginsWith, bind_some, both_split, begins_append, begins_wider, begins_some, byte_is_solid, skip_solid, safe_apart, digit_apart, solid_apart, number_solid, begins_ends, no_byte, both_begins, both_ends, both_no_more, sep_ends, with_second, at_end, spaced_begins, group_begins, quoted_begins, ahead_ends}
+use Rattle.gw_text.proofs.FormLaws.{skip_is, skip_stays, some_is, sign_ends, sign_other, sign_none, BeginsWith, bind_some, begins_append, begins_wider, begins_some, byte_is_solid, skip_solid, safe_apart, digit_apart, solid_apart, number_solid, begins_ends, no_byte, both_begins, both_ends, both_no_more, sep_ends, with_second, at_end, spaced_begins, group_begins, quoted_begins, ahead_ends}
 use Rattle.gw_text.proofs.ReaderLaws.{ReadsUp, Same, Skipped, UpTo, Any, up_as, up_from, up_next, up_to, up_skipped, up_then, up_last, up_done, up_sign, up_close, up_space, up_if_byte, up_if_begins, up_if_begins_from, up_shrinks, same_up, skipped_up, up_number, up_number_up_to, up_sep, BracesUp, up_braced, ItemsUp, ToEnd, Ended, up_items, up_quoted, up_group}
 use Rattle.gw_text.specs.Parts.{Shrinks, ShrinksMore}
+use Rattle.gw_desc.proofs.MediaLaws.{up_none}
 use Rattle.gw_msg.specs.declared.message.Action.{Action}
 use Rattle.gw_msg.specs.declared.message.AckRange.{AckRange}
 use Rattle.gw_msg.specs.declared.message.Item.{Item}
@@ -30,8 +32,8 @@ use Rattle.gw_msg.specs.Grammar.{SpellsAction, SpellsRange, SpellsItem, IsSomeUi
 use Rattle.gw_msg.specs.Words.{is_error, is_error_start}
 use Rattle.gw_msg.specs.NameWords.{mid_of}
 use Rattle.gw_msg.specs.Reading.{token_in, nothing_at, action_at, request_at, reply_at, pending_at, last_at, range_at, ack_at, item_behind, item_at, quoted_or_nothing, error_at, error_body_at, body_at, content_at}
-use Rattle.gw_msg.proofs.Starts.{error_starts, no_error_start, transaction_starts, reply_starts, pending_starts, ack_starts}
-use Rattle.gw_msg.proofs.Steps.{Done, Dropped, nothing_more, nothing_behind, behind_sign, no_more_within, no_digit}
+use Rattle.gw_msg.proofs.Starts.{error_starts, no_error_start, small_e, token_fits}
+use Rattle.gw_msg.proofs.Steps.{Done, Dropped, behind_sign, no_more_within, no_digit}
 use Rattle.gw_msg.proofs.WordLaws.{any_token_reads, error_word_reads, token_solid, mid_reads, mid_begins}
 use Rattle.gw_msg.proofs.Laws.{action_reads, action_braces}
 
@@ -119,26 +121,13 @@ range_end_reads first =
 
 -- what ends a range's first number
 range_end_no_more : (first : ℕ) (r : AckRange) (front rest : List ℕ) → RangeEnd first r front → NoMore is_safe rest → NoMore is_digit (front ++ rest)
-range_end_no_more first r front rest h n =
-    elim h [
-      | inl b ↦ ap (begins is_digit) (both_split (IsText (dash ∷ [])) (LastNumber first r) front rest b) ∙ ap (λ (x : List ℕ). begins is_digit (x ++ (b.back ++ rest))) b.first
-      | inr d ↦ ap (λ (x : List ℕ). begins is_digit (x ++ rest)) d.1 ∙ no_digit rest n
-    ]
+range_end_no_more first r front rest h n = grind (arith, common_steps)
 
 range_to : (r : AckRange) (text : List ℕ) → ((first : ℕ) × Both (IsUint32 first) (RangeEnd first r) text) → SpellsRange r text
-range_to r text h =
-    let b = h.1 in
-    elim b.second [
-      | inl d ↦ subst (λ (s : AckRange). SpellsRange s text) d.second.1 (inr (with_second b (with_second d d.second.2)))
-      | inr d ↦ subst (λ (s : AckRange). SpellsRange s text) d.0 (inl (nothing_behind (IsUint32 h.0) (RangeEnd h.0 r) text b d.1, refl))
-    ]
+range_to r text h = grind (arith, common_steps)
 
 range_from : (r : AckRange) (text : List ℕ) → SpellsRange r text → (first : ℕ) × Both (IsUint32 first) (RangeEnd first r) text
-range_from r text h =
-    elim h [
-      | inl s ↦ (r.first, nothing_more text s.0 (inr (ap (range_of r.first) s.1, refl)))
-      | inr b ↦ (r.first, with_second b (inl (with_second b.second (r.last, refl, b.second.second))))
-    ]
+range_from r text h = grind (arith, common_steps)
 
 pub range_reads : ReadsUp range_at SpellsRange (NoMore is_safe) Same Same
 unfolding range_at
@@ -157,10 +146,7 @@ range_solid r text h =
     ]
 
 range_braces : BracesUp SpellsRange (NoMore is_safe)
-range_braces = record {
-  lists = record { next = λ front more sign. sign_ends is_safe comma front more safe_apart refl sign; begins = range_solid };
-  closes = λ front more sign. sign_ends is_safe right_brace front more safe_apart refl sign;
-}
+range_braces = search (rules, sign_ends, safe_apart, range_solid)
 
 abbrev AckRanges : Item → List ℕ → Type 0
 AckRanges i text = (ranges : List AckRange) × (item.Ack ranges ≡ i) × Braced SpellsRange ranges text
@@ -178,21 +164,15 @@ Parse token.Pending i text = Numbered PendingBraces i text
 Parse token.TransactionResponseAck i text = AckRanges i text
 Parse _ i text = ⊥
 
-nothing_reads : ReadsUp {V = Item} (λ text. None) (λ i text. ⊥) Any Same UpTo
-nothing_reads = record {
-  sound = λ text v rest e. absurd cc;
-  complete = λ v front rest start q n e. absurd q;
-}
-
 part_reads : (t : Token) → ReadsUp (item_behind t) (Parse t) Any Same UpTo
 part_reads token.Transaction = up_to request_reads skipped_up
 part_reads token.Reply = up_to reply_reads same_up
 part_reads token.Pending = up_to pending_reads skipped_up
 part_reads token.TransactionResponseAck = up_to ack_reads skipped_up
-part_reads _ = nothing_reads
+part_reads _ = up_none UpTo Any
 
 numbered_ends : {W : Type 0} (Q : ℕ → W → List ℕ → Type 0) (w : W) (front rest : List ℕ) → Numbered Q w front → NoMore is_safe (front ++ rest)
-numbered_ends Q w front rest b = both_ends is_safe equals_sign (λ text. (n : ℕ) × Both (IsUint32 n) (Q n w) text) front rest safe_apart refl b
+numbered_ends Q w front rest b = search (rules, both_ends, safe_apart)
 
 part_ends : (t : Token) (i : Item) (front rest : List ℕ) → Parse t i front → NoMore is_safe (front ++ rest)
 part_ends token.Transaction i front rest b = numbered_ends RequestActions i front rest b
@@ -201,6 +181,9 @@ part_ends token.Pending i front rest b = numbered_ends PendingBraces i front res
 part_ends token.TransactionResponseAck i front rest b = both_ends is_safe left_brace _ front rest safe_apart refl b.2
 part_ends _ i front rest b = absurd b
 
+number_first : {P Q : List ℕ → Type 0} {t : List ℕ} (n : ℕ) (c : Both (IsUint32 n) P t) → Q c.back → Both IsSomeUint32 Q t
+number_first n c y = record { front = c.front; back = c.back; split = c.split; first = (n, c.first); second = y }
+
 item_to : (i : Item) (text : List ℕ) (t : Token) → Both (IsToken t) (Parse t i) text → SpellsItem i text
 item_to i text token.Transaction b =
     let n = b.second.second in let q = n.1.second in
@@ -208,15 +191,9 @@ item_to i text token.Transaction b =
 item_to i text token.Reply b =
     let n = b.second.second in let q = n.1.second.second in
     subst (λ (j : Item). SpellsItem j text) q.1 (inl (with_second b (with_second b.second (number_first n.0 n.1 (with_second n.1.second q.2.1)))))
-  where
-    number_first : {P Q : List ℕ → Type 0} {t : List ℕ} (n : ℕ) (c : Both (IsUint32 n) P t) → Q c.back → Both IsSomeUint32 Q t
-    number_first n c y = record { front = c.front; back = c.back; split = c.split; first = (n, c.first); second = y }
 item_to i text token.Pending b =
     let n = b.second.second in let q = n.1.second in
     subst (λ (j : Item). SpellsItem j text) q.second.0 (inr (with_second b (with_second b.second (number_first n.0 n.1 (with_second q q.second.1)))))
-  where
-    number_first : {P Q : List ℕ → Type 0} {t : List ℕ} (n : ℕ) (c : Both (IsUint32 n) P t) → Q c.back → Both IsSomeUint32 Q t
-    number_first n c y = record { front = c.front; back = c.back; split = c.split; first = (n, c.first); second = y }
 item_to i text token.TransactionResponseAck b = subst (λ (j : Item). SpellsItem j text) b.second.1 (with_second b b.second.2)
 item_to i text _ b = absurd (b.second)
 
@@ -253,15 +230,15 @@ item_begins p a b c d item.Ignored text h =
     ]
 
 pub item_solid : BeginsWith is_solid SpellsItem
-item_solid = item_begins is_solid (token_solid token.Transaction) (token_solid token.Reply) (token_solid token.Pending) (token_solid token.TransactionResponseAck)
+item_solid = search (rules, item_begins, token_solid)
 
 item_no_error : BeginsWith no_error_start SpellsItem
-item_no_error = item_begins no_error_start (λ w h. transaction_starts w h.stands) (λ w h. reply_starts w h.stands) (λ w h. pending_starts w h.stands) (λ w h. ack_starts w h.stands)
+item_no_error =
+    item_begins no_error_start (λ w h. small_e w (token_fits w token.Transaction h.stands)) (λ w h. small_e w (token_fits w token.Reply h.stands)) (λ w h. small_e w (token_fits w token.Pending h.stands))
+    (λ w h. small_e w (token_fits w token.TransactionResponseAck h.stands))
 
 pub item_shrinks : ShrinksMore item_at
-item_shrinks text i rest e =
-    let s = item_reads.sound text i rest e in
-    omega (arith, ap length s.1, length-append s.0 rest, begins_some is_solid s.0 (item_solid i s.0 s.2))
+item_shrinks text i rest e = grind (arith, item_reads, length-append, begins_some, item_solid)
 
 items_up : ItemsUp SpellsItem Any
 items_up = record { next = λ w between front rest space form. tt; last = λ rest e. tt; begins = item_solid }
@@ -279,7 +256,7 @@ abbrev Closes : List ℕ → Type 0
 Closes rest = sign_at quote_mark rest ≡ None
 
 quoted_solid : BeginsWith is_solid QuotedText
-quoted_solid u text h = begins_wider (is_byte quote_mark) is_solid (byte_is_solid quote_mark refl) text (quoted_begins text h.2.1)
+quoted_solid u text h = grind (arith, common_steps)
 
 quoted_or_reads : ReadsUp quoted_or_nothing (Dropped IsOptionalQuoted) Closes Skipped UpTo
 unfolding quoted_or_nothing

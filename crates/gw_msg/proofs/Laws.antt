@@ -1,5 +1,6 @@
 -- The readers of commands and actions read their forms.
-use Rattle.std.proofs.Common.{◌≡◌, ◌⊎◌, inl, inr, ℕ, zero, suc, ◌<◌, ◌≤◌, Bool, true, false, ◌==◌, List, [], ◌∷◌, ◌++◌, length, Some, refl, ap, sym, subst, ◌∙◌, length-append, arith}
+use Rattle.std.proofs.lemmas.Grind.{common_steps}
+use Rattle.std.proofs.Common.{◌≡◌, ◌⊎◌, inl, inr, ℕ, zero, suc, ◌<◌, ◌≤◌, Bool, true, false, ◌==◌, List, [], ◌∷◌, ◌++◌, length, Some, refl, ap, sym, subst, ◌∙◌, length-append, arith, rules}
 use Rattle.std.specs.Prelude.{codes}
 use Rattle.std.specs.Char.{to_ascii_lowercase}
 use Rattle.std.proofs.lemmas.Bool.{not-true}
@@ -143,26 +144,15 @@ command_part_reads =
     up_then (mark_at (codes "O-")) wild_at (SpellsMark (codes "O-")) WildPart (NoPrefix (codes "O-")) AfterCommand Same Same UpTo
     (mark_reads (codes "O-")) wild_reads (λ o c front rest q n. wild_no_mark_by q.0 o c front rest q.1)
 
-allowed_to : (w : Bool) (v : Verb) → is_allowed w v ≡ true → w ≡ true → may_be_wild v ≡ true
-allowed_to true v h e = h
-allowed_to false v h e = absurd cc
-
 allowed_from : (w : Bool) (v : Verb) → (w ≡ true → may_be_wild v ≡ true) → is_allowed w v ≡ true
 allowed_from true v h = h refl
 allowed_from false v h = refl
 
 command_to : (c : Command) (text : List ℕ) → CommandPart c text → SpellsCommand c text
-command_to c text h =
-    let b1 = h.1 in let b2 = b1.second.1 in let b3 = b2.second.1 in let b4 = b3.second.1 in let b5 = b4.second.1 in
-    subst (λ (d : Command). SpellsCommand d text) b5.second.1 (record {
-      words = with_second b1 (with_second b2 (with_second b3 (with_second b4 (with_second b5 b5.second.2))));
-      wild = allowed_to b1.second.0 b2.second.0 b3.second.0;
-    })
+command_to c text h = grind (arith, common_steps)
 
 command_from : (c : Command) (text : List ℕ) → SpellsCommand c text → CommandPart c text
-command_from c text h =
-    let b1 = h.words in let b2 = b1.second in let b3 = b2.second in let b4 = b3.second in let b5 = b4.second in
-    (c.optional, with_second b1 (c.wild, with_second b2 (c.verb, with_second b3 (allowed_from c.wild c.verb h.wild, with_second b4 (c.term, with_second b5 (c.descriptors, refl, b5.second))))))
+command_from c text h = grind (arith, with_second, allowed_from)
 
 pub command_reads : ReadsUp command_at SpellsCommand AfterCommand Same UpTo
 command_reads = up_as command_part_reads command_to command_from
@@ -172,21 +162,14 @@ command_shrinks = up_shrinks command_reads
 
 -- a command begins with a letter of its first word
 pub command_begins : (p : ℕ → Bool) → p (byte (codes "o")) ≡ true → p (byte (codes "O")) ≡ true → p (byte (codes "w")) ≡ true → p (byte (codes "W")) ≡ true → BeginsWith p SpellsVerb → BeginsWith p SpellsCommand
-command_begins p o1 o2 w1 w2 verbs c text h =
-    mark_begins p (codes "O-") (SpellsMark (codes "W-") c.wild ▹ SpellsVerb c.verb ▹ IsSign equals_sign ▹ SpellsTerm c.term ▹ SpellsDetails c.verb c.descriptors)
-    (λ t m. case_begins p (byte (codes "O")) (codes "-") t m o1 o2)
-    (λ t b. mark_begins p (codes "W-") (SpellsVerb c.verb ▹ IsSign equals_sign ▹ SpellsTerm c.term ▹ SpellsDetails c.verb c.descriptors)
-    (λ t m. case_begins p (byte (codes "W")) (codes "-") t m w1 w2)
-    (λ t d. both_begins p (SpellsVerb c.verb) (IsSign equals_sign ▹ SpellsTerm c.term ▹ SpellsDetails c.verb c.descriptors) (verbs c.verb) t d)
-    c.wild t b)
-    c.optional text h.words
+command_begins p o1 o2 w1 w2 verbs c text h = search (rules, mark_begins, case_begins, both_begins)
 
 pub command_solid : BeginsWith is_solid SpellsCommand
 command_solid = command_begins is_solid refl refl refl refl (λ v text h. word_solid text h.word)
 
 -- a sign of another kind may follow a command
 sign_after_command : (b : ℕ) → is_space_start b ≡ false → is_safe b ≡ false → b == left_brace ≡ false → (front more : List ℕ) → IsSign b front → AfterCommand (front ++ more)
-sign_after_command b solid safe brace front more h = record { next = sign_ends is_safe b front more safe_apart safe h; bare = sign_other b left_brace front more solid brace h }
+sign_after_command b solid safe brace front more h = search (rules, sign_ends, safe_apart, sign_other)
 
 command_lists : ListsUp SpellsCommand AfterCommand
 command_lists = record { next = sign_after_command comma refl refl refl; begins = command_solid }
@@ -311,7 +294,7 @@ abbrev ActionContents : CtxRef → Action → List ℕ → Type 0
 ActionContents ctx a = IsSign left_brace ▹ ContentsClosed ctx a
 
 after_contents : (front rest : List ℕ) → IsSign right_brace front → AfterContents (front ++ rest)
-after_contents front rest h = record { next = sign_after_command right_brace refl refl refl front rest h; bare = sign_other right_brace comma front rest refl refl h }
+after_contents front rest h = search (rules, sign_after_command, sign_other)
 
 action_contents_reads : (ctx : CtxRef) → ReadsUp (action_contents ctx) (ActionContents ctx) Any UpTo Skipped
 action_contents_reads ctx =
@@ -337,9 +320,7 @@ action_ctx_solid : BeginsWith is_solid ActionCtx
 action_ctx_solid a text h = both_begins is_solid (SpellsContextId h.0) (ActionContents h.0 a) (context_id_solid h.0) text h.1
 
 action_to : (a : Action) (text : List ℕ) → Both (IsToken token.Context) (IsSign equals_sign ▹ ActionCtx a) text → SpellsAction a text
-action_to a text b =
-    let ctx = b.second.second in let left = ctx.1.second in let c = left.second.1 in
-    subst (λ (d : Action). SpellsAction d text) c.second.0 (with_second b (with_second b.second (with_second ctx.1 (with_second left (with_second c c.second.1)))))
+action_to a text b = grind (arith, common_steps)
 
 action_from : (a : Action) (text : List ℕ) → SpellsAction a text → Both (IsToken token.Context) (IsSign equals_sign ▹ ActionCtx a) text
 action_from a text b =
@@ -363,7 +344,4 @@ action_solid : BeginsWith is_solid SpellsAction
 action_solid a text h = both_begins is_solid (IsToken token.Context) _ (token_solid token.Context) text h
 
 pub action_braces : BracesUp SpellsAction Any
-action_braces = record {
-  lists = record { next = λ front more sign. tt; begins = action_solid };
-  closes = λ front more sign. tt;
-}
+action_braces = search (rules, action_solid)

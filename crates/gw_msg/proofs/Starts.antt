@@ -1,13 +1,14 @@
 -- What the tokens of a message begin with, and so which of them comes next.
-use Rattle.std.proofs.Common.{◌≡◌, ◌⊎◌, inl, inr, ℕ, ◌+◌, ◌-◌, Bool, true, false, cond, not, ◌==◌, ◌||◌, ◌&&◌, List, [], ◌∷◌, map, Option, Some, None, refl, ap, sym, ◌∙◌, arith}
+use Rattle.std.proofs.lemmas.Grind.{common_steps}
+use Rattle.std.proofs.Common.{◌≡◌, inl, inr, ℕ, ◌-◌, Bool, true, false, cond, not, ◌==◌, ◌||◌, ◌&&◌, List, [], ◌∷◌, map, Option, Some, None, refl, ap, sym, ◌∙◌, arith}
 use Rattle.std.specs.Prelude.{bytes_eq, codes}
 use Rattle.std.specs.List.{list_all}
 use Rattle.std.specs.Char.{to_ascii_lowercase}
 use Rattle.std.proofs.lemmas.Slice.Eq.{bytes_eq-Decides}
-use Rattle.std.proofs.lemmas.Bool.{and_parts, or_cases, eqb-true, not-true}
+use Rattle.std.proofs.lemmas.Bool.{and_parts, both_ways, false_from_ne_true, or_cases, eqb-true, not-true}
 use Rattle.gw_base.specs.Bytes.{is_one_of}
 use Rattle.gw_text.specs.Runs.{begins, first}
-use Rattle.gw_text.specs.Forms.{IsInAnyCase, IsToken}
+use Rattle.gw_text.specs.Forms.{IsInAnyCase}
 use Rattle.gw_text.specs.Tokens.{Spelling, table, is_spelling, find_token, token_of}
 use Rattle.gw_text.specs.declared.token.Token.{Token}
 use Rattle.gw_text.specs.declared.token.Token.TheVariants as token
@@ -50,48 +51,44 @@ first_fits token.Notify b = not (is_one_of (codes "tpec") b)
 first_fits token.ServiceChange b = not (is_one_of (codes "tpec") b)
 first_fits _ b = true
 
-abbrev all_fit : List Spelling → Bool
-all_fit [] = true
-all_fit (s ∷ others) = begins (first_fits s.token) (map to_ascii_lowercase s.long) && (begins (first_fits s.token) (map to_ascii_lowercase s.short) && all_fit others)
+-- a property of both forms of each token
+abbrev all_have : (Token → List ℕ → Bool) → List Spelling → Bool
+all_have p [] = true
+all_have p (s ∷ others) = p s.token (map to_ascii_lowercase s.long) && (p s.token (map to_ascii_lowercase s.short) && all_have p others)
 
 found_in : (P : Type 0) (t : Bool) (a b : Option Token) (x : Token) → cond t a b ≡ Some x → (t ≡ true → a ≡ Some x → P) → (b ≡ Some x → P) → P
 found_in P true a b x e f g = f refl e
 found_in P false a b x e f g = g e
 
-find_fits : (word : List ℕ) (entries : List Spelling) (t : Token) → all_fit entries ≡ true → find_token word entries ≡ Some t → begins (first_fits t) (map to_ascii_lowercase word) ≡ true
+find_has : (p : Token → List ℕ → Bool) (word : List ℕ) (entries : List Spelling) (t : Token) → all_have p entries ≡ true → find_token word entries ≡ Some t → p t (map to_ascii_lowercase word) ≡ true
 unfolding is_spelling
-find_fits word [] t h e = absurd cc
-find_fits word (s ∷ others) t h e =
+find_has p word [] t h e = absurd cc
+find_has p word (s ∷ others) t h e =
     let lower : List ℕ = map to_ascii_lowercase word in
     let long : List ℕ = map to_ascii_lowercase s.long in
     let short : List ℕ = map to_ascii_lowercase s.short in
-    let a = and_parts (begins (first_fits s.token) long) (begins (first_fits s.token) short && all_fit others) h in
-    let b = and_parts (begins (first_fits s.token) short) (all_fit others) a.1 in
-    found_in (begins (first_fits t) lower ≡ true) (bytes_eq lower long || bytes_eq lower short) (Some s.token) (find_token word others) t e
-    (λ is same. ap (λ (u : Token). begins (first_fits u) lower) (sym (some_is s.token t same)) ∙ elim (or_cases (bytes_eq lower long) (bytes_eq lower short) is) [
-      | inl i ↦ ap (begins (first_fits s.token)) ((bytes_eq-Decides lower long).0 i) ∙ a.0
-      | inr i ↦ ap (begins (first_fits s.token)) ((bytes_eq-Decides lower short).0 i) ∙ b.0
+    let a = and_parts (p s.token long) (p s.token short && all_have p others) h in
+    let b = and_parts (p s.token short) (all_have p others) a.1 in
+    found_in (p t lower ≡ true) (bytes_eq lower long || bytes_eq lower short) (Some s.token) (find_token word others) t e
+    (λ is same. ap (λ (u : Token). p u lower) (sym (some_is s.token t same)) ∙ elim (or_cases (bytes_eq lower long) (bytes_eq lower short) is) [
+      | inl i ↦ ap (p s.token) ((bytes_eq-Decides lower long).0 i) ∙ a.0
+      | inr i ↦ ap (p s.token) ((bytes_eq-Decides lower short).0 i) ∙ b.0
     ])
-    (λ i. find_fits word others t b.1 i)
+    (λ i. find_has p word others t b.1 i)
 
-token_fits : (word : List ℕ) (t : Token) → token_of word ≡ Some t → begins (first_fits t) (map to_ascii_lowercase word) ≡ true
+-- what both forms of each token have, each word of a token has
+pub token_has : (p : Token → List ℕ → Bool) (word : List ℕ) (t : Token) → all_have p table ≡ true → token_of word ≡ Some t → p t (map to_ascii_lowercase word) ≡ true
 unfolding token_of
-token_fits word t e = find_fits word table t refl e
+token_has p word t all e = find_has p word table t all e
+
+pub token_fits : (word : List ℕ) (t : Token) → token_of word ≡ Some t → begins (first_fits t) (map to_ascii_lowercase word) ≡ true
+token_fits word t e = token_has (λ u. begins (first_fits u)) word t refl e
 
 -- ---- small letters and letters
 
-lower_cases : (s t : Bool) (c m : ℕ) → cond s c (cond t (c + 32) c) ≡ m → (c + 32 ≡ m) ⊎ (c ≡ m)
-lower_cases true t c m e = inr e
-lower_cases false true c m e = inl e
-lower_cases false false c m e = inr e
-
 -- a letter of a class that has both its cases
 pub either_case : (p : ℕ → Bool) (m c : ℕ) → to_ascii_lowercase c ≡ m → p m ≡ true → p (m - 32) ≡ true → p c ≡ true
-either_case p m c e small large =
-    elim (lower_cases _ _ c m e) [
-      | inl k ↦ let same : c ≡ m - 32 = omega (arith, k) in ap p same ∙ large
-      | inr k ↦ ap p k ∙ small
-    ]
+either_case p m c e small large = grind (arith, common_steps)
 
 -- what begins with a letter in any case
 pub case_begins : (p : ℕ → Bool) (l : ℕ) (ls text : List ℕ) → IsInAnyCase (l ∷ ls) text → p (to_ascii_lowercase l) ≡ true → p (to_ascii_lowercase l - 32) ≡ true → begins p text ≡ true
@@ -122,15 +119,10 @@ begins_with : (p : ℕ → Bool) (marks text : List ℕ) → list_all p marks �
 begins_with p marks [] small large h = absurd cc
 begins_with p marks (c ∷ cs) small large h = lower_in p marks c small large h
 
-refute : (t : Bool) → (t ≡ true → ⊥) → t ≡ false
-refute true h = absurd (h refl)
-refute false h = refl
-
 begins_without : (marks letters text : List ℕ) → list_all (λ x. is_one_of marks (to_ascii_lowercase x)) letters ≡ true → begins (λ b. not (is_one_of marks b)) (map to_ascii_lowercase text) ≡ true → begins (λ b. not (is_one_of letters b)) text ≡ true
 begins_without marks letters [] all h = absurd cc
 begins_without marks letters (c ∷ cs) all h =
-    ap not (refute (is_one_of letters c) (λ is.
-    let clash : true ≡ false = sym (one_of (λ x. is_one_of marks (to_ascii_lowercase x)) letters c all is) ∙ not-true _ h in absurd cc))
+    ap not (false_from_ne_true (is_one_of letters c) (λ is. both_ways (is_one_of marks (to_ascii_lowercase c)) (not-true _ h) (one_of (λ x. is_one_of marks (to_ascii_lowercase x)) letters c all is)))
 
 -- ---- errors and items
 
@@ -140,37 +132,13 @@ error_starts word e = begins_with is_error_start (codes "e") word refl refl (tok
 abbrev pub no_error_start : ℕ → Bool
 no_error_start b = not (is_error_start b)
 
-small_e : (word : List ℕ) → begins (λ b. not (is_one_of (codes "e") b)) (map to_ascii_lowercase word) ≡ true → begins no_error_start word ≡ true
+pub small_e : (word : List ℕ) → begins (λ b. not (is_one_of (codes "e") b)) (map to_ascii_lowercase word) ≡ true → begins no_error_start word ≡ true
 small_e word h = begins_without (codes "e") (codes "Ee") word refl h
-
-pub transaction_starts : (word : List ℕ) → token_of word ≡ Some token.Transaction → begins no_error_start word ≡ true
-transaction_starts word e = small_e word (token_fits word token.Transaction e)
-
-pub reply_starts : (word : List ℕ) → token_of word ≡ Some token.Reply → begins no_error_start word ≡ true
-reply_starts word e = small_e word (token_fits word token.Reply e)
-
-pub pending_starts : (word : List ℕ) → token_of word ≡ Some token.Pending → begins no_error_start word ≡ true
-pending_starts word e = small_e word (token_fits word token.Pending e)
-
-pub ack_starts : (word : List ℕ) → token_of word ≡ Some token.TransactionResponseAck → begins no_error_start word ≡ true
-ack_starts word e = small_e word (token_fits word token.TransactionResponseAck e)
 
 -- ---- properties and commands
 
-small_property : (word : List ℕ) → begins (is_one_of (codes "tpec")) (map to_ascii_lowercase word) ≡ true → begins is_context_property_start word ≡ true
+pub small_property : (word : List ℕ) → begins (is_one_of (codes "tpec")) (map to_ascii_lowercase word) ≡ true → begins is_context_property_start word ≡ true
 small_property word h = begins_with is_context_property_start (codes "tpec") word refl refl h
-
-pub topology_starts : (word : List ℕ) → IsToken token.Topology word → begins is_context_property_start word ≡ true
-topology_starts word h = small_property word (token_fits word token.Topology h.stands)
-
-pub priority_starts : (word : List ℕ) → IsToken token.Priority word → begins is_context_property_start word ≡ true
-priority_starts word h = small_property word (token_fits word token.Priority h.stands)
-
-pub emergency_starts : (word : List ℕ) → IsToken token.Emergency word → begins is_context_property_start word ≡ true
-emergency_starts word h = small_property word (token_fits word token.Emergency h.stands)
-
-pub context_audit_starts : (word : List ℕ) → IsToken token.ContextAudit word → begins is_context_property_start word ≡ true
-context_audit_starts word h = small_property word (token_fits word token.ContextAudit h.stands)
 
 abbrev pub no_context_property_start : ℕ → Bool
 no_context_property_start b = not (is_context_property_start b)

@@ -1,7 +1,8 @@
 -- Readers of marks that may be missing, and of what a test allows.
-use Rattle.std.proofs.Common.{◌≡◌, ◌⊎◌, inl, inr, ℕ, Bool, true, false, not, ◌==◌, List, [], ◌∷◌, ◌++◌, Some, None, refl, ap, sym, subst, ◌∙◌}
+use Rattle.std.proofs.lemmas.Grind.{common_steps}
+use Rattle.std.proofs.Common.{◌≡◌, ◌⊎◌, inl, inr, ℕ, Bool, true, false, not, ◌==◌, List, [], ◌∷◌, ◌++◌, Some, None, refl, ap, sym, ◌∙◌, arith}
 use Rattle.std.proofs.lemmas.List.{append-nil}
-use Rattle.std.proofs.lemmas.Bool.{not-true}
+use Rattle.std.proofs.lemmas.Bool.{both_ways, false_from_ne_true, not-true}
 use Rattle.gw_base.specs.Lang.{Both, ◌▹◌, IsText}
 use Rattle.gw_text.specs.Runs.{begins, is_byte, NoMore}
 use Rattle.gw_base.specs.Bytes.{is_digit}
@@ -20,7 +21,7 @@ Done v w text = (v ≡ w) × (text ≡ [])
 
 -- a text, and behind it nothing
 pub nothing_behind : (P Q : List ℕ → Type 0) (text : List ℕ) (b : Both P Q text) → b.back ≡ [] → P text
-nothing_behind P Q text b none = subst P (sym (append-nil b.front) ∙ ap (λ (x : List ℕ). b.front ++ x) (sym none) ∙ sym b.split) b.first
+nothing_behind P Q text b none = grind (arith, common_steps)
 
 pub nothing_more : {P Q : List ℕ → Type 0} (text : List ℕ) → P text → Q [] → Both P Q text
 nothing_more text p q = record { front = text; back = []; split = sym (append-nil text); first = p; second = q }
@@ -42,11 +43,7 @@ abbrev pub NoPrefix : List ℕ → List ℕ → Type 0
 NoPrefix mark rest = prefix_at mark rest ≡ None
 
 mark_to : (mark : List ℕ) (w : Bool) (text : List ℕ) → (Both (IsInAnyCase mark) (Done true w) text ⊎ Done false w text) → SpellsMark mark w text
-mark_to mark w text h =
-    elim h [
-      | inl b ↦ subst (λ (v : Bool). SpellsMark mark v text) b.second.0 (nothing_behind (IsInAnyCase mark) (Done true w) text b b.second.1)
-      | inr n ↦ subst (λ (v : Bool). SpellsMark mark v text) n.0 n.1
-    ]
+mark_to mark w text h = grind (arith, common_steps)
 
 mark_from : (mark : List ℕ) (w : Bool) (text : List ℕ) → SpellsMark mark w text → (Both (IsInAnyCase mark) (Done true w) text ⊎ Done false w text)
 mark_from mark true text h = inl (nothing_more text h (refl, refl))
@@ -95,11 +92,7 @@ behind_sign b k Q Next To solid first h = up_from (up_sign b k Q Next To solid (
 -- a class within another
 pub no_more_within : (p q : ℕ → Bool) → ((c : ℕ) → p c ≡ true → q c ≡ true) → (rest : List ℕ) → NoMore q rest → NoMore p rest
 no_more_within p q h [] n = refl
-no_more_within p q h (c ∷ cs) n = refute (p c) (λ is. let clash : true ≡ false = sym (h c is) ∙ n in absurd cc)
-  where
-    refute : (t : Bool) → (t ≡ true → ⊥) → t ≡ false
-    refute true k = absurd (k refl)
-    refute false k = refl
+no_more_within p q h (c ∷ cs) n = false_from_ne_true (p c) (λ is. both_ways (q c) n (h c is))
 
 pub no_digit : (rest : List ℕ) → NoMore is_safe rest → NoMore is_digit rest
 no_digit = no_more_within is_digit is_safe digit_is_safe

@@ -1,5 +1,5 @@
 -- A whole text: its message, a header of another version, or neither.
-use Rattle.std.proofs.Common.{◌≡◌, ◌≢◌, ◌⊎◌, inl, inr, ℕ, Bool, true, false, cond, ◌==◌, List, [], ◌∷◌, ◌++◌, Option, Some, None, Result, Ok, Err, refl, ap, sym, subst, ◌∙◌}
+use Rattle.std.proofs.Common.{◌≡◌, ◌≢◌, ◌⊎◌, inl, inr, ℕ, Bool, true, false, cond, ◌==◌, List, [], ◌∷◌, ◌++◌, Option, Some, None, Result, Ok, Err, refl, ap, sym, subst, ◌∙◌, arith}
 use Rattle.std.proofs.lemmas.List.{append-nil}
 use Rattle.std.proofs.lemmas.Bool.{eqb-true, eqb-false, ne_eqb}
 use Rattle.gw_text.specs.SpaceScan.{skip}
@@ -67,10 +67,7 @@ content_complete text m h =
 
 message_sound : (text : List ℕ) (m : Message) → message_of text ≡ Ok m → Spells m text
 unfolding message_of
-message_sound text m e =
-    let j = judged_ok (header_at text) m e in
-    let s = header_reads.sound text spoken_version j.0 j.1 in
-    record { front = s.0; back = j.0; split = s.1; first = s.2; second = content_sound j.0 m j.2 }
+message_sound text m e = grind (arith, judged_ok, header_reads, content_sound)
 
 message_complete : (text : List ℕ) (m : Message) → Spells m text → message_of text ≡ Ok m
 unfolding message_of
@@ -82,10 +79,7 @@ message_complete text m h =
 
 version_sound : (text : List ℕ) → message_of text ≡ Err Version → HasVersionFault text
 unfolding message_of
-version_sound text e =
-    let j = judged_version (header_at text) e in
-    let s = header_reads.sound text j.0 j.1 j.2 in
-    record { version = j.0; other = j.3; header = record { front = s.0; back = j.1; split = s.1; first = s.2; second = tt } }
+version_sound text e = grind (arith, judged_version, header_reads)
 
 version_complete : (text : List ℕ) → HasVersionFault text → message_of text ≡ Err Version
 unfolding message_of
@@ -184,21 +178,3 @@ only text (Ok m) h = inl (sym (message_complete text m h))
 only text (Err Version) h = inl (sym (version_complete text h))
 only text (Err Syntax) h = inl (syntax_at text (message_of text) refl h.0 h.1)
 only text (Err NoMemory) h = inr refl
-
--- ---- the answer of the code
-
-ended : (rest : List ℕ) → ¬ (rest ≡ []) → (m : Message) → if_end m rest ≡ None
-ended [] h m = absurd (h refl)
-ended (b ∷ bs) h m = refl
-
--- a header, what stands behind it, and the end of the text
-pub answer_whole : (text rest after : List ℕ) (m : Message) → header_at text ≡ Some (spoken_version, rest) → content_at rest ≡ Some (m, after) → after ≡ [] → message_of text ≡ Ok m
-unfolding message_of
-answer_whole text rest after m h c e =
-    ap judged h ∙ ap or_syntax (ap (λ (o : Option (Message × List ℕ)). o >>= λ x. if_end x.0 x.1) c ∙ ap (if_end m) e)
-
--- the same, and more
-pub answer_more : (text rest after : List ℕ) (m : Message) → header_at text ≡ Some (spoken_version, rest) → content_at rest ≡ Some (m, after) → ¬ (after ≡ []) → message_of text ≡ Err Syntax
-unfolding message_of
-answer_more text rest after m h c e =
-    ap judged h ∙ ap or_syntax (ap (λ (o : Option (Message × List ℕ)). o >>= λ x. if_end x.0 x.1) c ∙ ended after e m)

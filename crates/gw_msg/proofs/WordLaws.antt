@@ -1,34 +1,33 @@
 -- The readers of single words, numbers and names read their forms.
-use Rattle.std.proofs.Common.{◌≡◌, ◌⊎◌, inl, inr, ℕ, ◌<◌, Bool, true, false, not, ◌||◌, List, [], ◌∷◌, ◌++◌, length, Option, Some, None, refl, ap, sym, subst, ◌∙◌, arith}
+use Rattle.std.proofs.lemmas.Grind.{common_steps}
+use Rattle.std.proofs.Common.{◌≡◌, ◌⊎◌, inl, inr, ℕ, ◌<◌, Bool, true, false, not, List, [], ◌∷◌, ◌++◌, length, Option, Some, None, refl, ap, subst, ◌∙◌, arith, rules}
 use Rattle.std.specs.Prelude.{codes}
 use Rattle.std.specs.List.{list_all}
-use Rattle.std.proofs.lemmas.List.Folds.{list_all-append}
-use Rattle.std.proofs.lemmas.Bool.{and_parts, and_from, or_cases, or_left}
-use Rattle.gw_base.specs.Bytes.{byte, is_letter, is_digit, is_name_mark, is_name_byte}
+use Rattle.std.proofs.lemmas.Bool.{and_parts, and_from}
+use Rattle.gw_base.specs.Bytes.{byte, is_digit}
 use Rattle.gw_base.proofs.Booleans.{other_byte}
 use Rattle.gw_base.proofs.NameForms.{some_mid}
 use Rattle.gw_base.specs.Lang.{Both, ◌▹◌, IsText}
 use Rattle.gw_base.specs.Addresses.{is_address_byte, IsAddress}
-use Rattle.gw_base.specs.Mids.{is_domain_byte, is_device_byte, IsDomain, IsPort, IsOptionalPort, IsMid}
-use Rattle.gw_base.specs.Wildcards.{is_wildcard_byte, is_term_byte, IsTermText}
+use Rattle.gw_base.specs.Mids.{is_domain_byte, is_device_byte, IsDomain, IsOptionalPort, IsMid}
+use Rattle.gw_base.specs.Wildcards.{is_term_byte, IsTermText}
 use Rattle.gw_base.specs.declared.command_words.CtxRef.{CtxRef}
 use Rattle.gw_base.specs.declared.command_words.CtxRef.TheVariants as ctx
 use Rattle.gw_base.specs.declared.command_words.Verb.{Verb}
 use Rattle.gw_base.specs.declared.command_words.Verb.TheVariants as verb
-use Rattle.gw_text.specs.Lexical.{is_safe, is_safe_mark, is_solid, is_space_start}
+use Rattle.gw_text.specs.Lexical.{is_safe, is_solid, is_space_start}
 use Rattle.gw_text.specs.Runs.{begins, NoMore}
 use Rattle.gw_text.specs.Forms.{IsToken, IsSomeRun, IsWord, IsUint32}
 use Rattle.gw_text.specs.Reader.{◌>>=◌, word_as, solid_as, number_at}
 use Rattle.gw_text.specs.Tokens.{token_of}
 use Rattle.gw_text.specs.declared.token.Token.{Token}
 use Rattle.gw_text.specs.declared.token.Token.TheVariants as token
-use Rattle.gw_text.proofs.FormLaws.{some_is, BeginsWith, begins_wider, space_bytes, is_solid_by, digit_apart, run_begins, word_solid, number_begins, number_solid, both_begins}
+use Rattle.gw_text.proofs.FormLaws.{some_is, BeginsWith, begins_wider, space_bytes, is_solid_by, digit_apart, run_begins, word_solid, number_begins, number_solid}
 use Rattle.gw_text.proofs.ReaderLaws.{ReadsUp, Same, up_as, up_last, up_then, up_done, up_word, up_solid, up_number}
 use Rattle.gw_msg.specs.Grammar.{command_token, SpellsVerb, SpellsTerm, SpellsContextId, SpellsMid}
 use Rattle.gw_msg.specs.Words.{verb_for, verb_of, is_context, is_error}
 use Rattle.gw_msg.specs.NameWords.{term_of, mid_of}
 use Rattle.gw_msg.specs.Reading.{only_if, token_in, if_mark, context_number_at, context_id_at}
-use Rattle.gw_msg.proofs.Starts.{one_of}
 use Rattle.gw_msg.proofs.Steps.{Done, nothing_behind, nothing_more, other_than, up_mark, up_only_if}
 use Rattle.gw_msg.proofs.WordLemmas.{term_is, term_again, mid_is, mid_again}
 
@@ -105,19 +104,8 @@ wider p q h (c ∷ cs) all =
 
 -- ---- TerminationIDs
 
-name_byte_safe : (c : ℕ) → is_name_byte c ≡ true → is_safe c ≡ true
-name_byte_safe c h =
-    elim (or_cases (is_letter c || is_digit c) (is_name_mark c) h) [
-      | inl e ↦ or_left (is_letter c || is_digit c) (is_safe_mark c) e
-      | inr e ↦ one_of is_safe (codes "_/@.-") c refl e
-    ]
-
 term_byte_safe : (c : ℕ) → is_term_byte c ≡ true → is_safe c ≡ true
-term_byte_safe c h =
-    elim (or_cases (is_name_byte c) (is_wildcard_byte c) h) [
-      | inl e ↦ name_byte_safe c e
-      | inr e ↦ one_of is_safe (codes "*$") c refl e
-    ]
+term_byte_safe c h = grind (arith, common_steps)
 
 term_word : (text : List ℕ) → IsTermText text → IsWord text
 term_word text h = record { run = wider is_term_byte is_safe term_byte_safe text h.each; some = h.some }
@@ -150,9 +138,6 @@ AllOn c text = Mark (codes "*") ctx.All c text ⊎ NullOn c text
 abbrev ChooseOn : CtxRef → List ℕ → Type 0
 ChooseOn c text = Mark (codes "$") ctx.Choose c text ⊎ AllOn c text
 
-mark_first : (p : ℕ → Bool) (mark : List ℕ) (v c : CtxRef) (text : List ℕ) → begins p mark ≡ true → Mark mark v c text → begins p text ≡ true
-mark_first p mark v c text is b = both_begins p (IsText mark) (Done v c) (λ t e. ap (begins p) e ∙ is) text b
-
 digit_but : (b : ℕ) → is_digit b ≡ false → (c : ℕ) → is_digit c ≡ true → other_than b c ≡ true
 digit_but b out c is = ap not (other_byte is_digit c b is out)
 
@@ -160,23 +145,13 @@ number_first : (b : ℕ) → is_digit b ≡ false → BeginsWith (other_than b) 
 number_first b out c text h = begins_wider is_digit (other_than b) (digit_but b out) text (number_begins _ _ h.0 text h.2)
 
 null_first : (b : ℕ) → is_digit b ≡ false → other_than b (byte (codes "-")) ≡ true → BeginsWith (other_than b) NullOn
-null_first b out other c text h =
-    elim h [
-      | inl m ↦ mark_first (other_than b) (codes "-") ctx.Null c text other m
-      | inr n ↦ number_first b out c text n
-    ]
+null_first b out other c text h = grind (arith, common_steps)
 
 all_first : (b : ℕ) → is_digit b ≡ false → other_than b (byte (codes "-")) ≡ true → other_than b (byte (codes "*")) ≡ true → BeginsWith (other_than b) AllOn
-all_first b out other second c text h =
-    elim h [
-      | inl m ↦ mark_first (other_than b) (codes "*") ctx.All c text second m
-      | inr n ↦ null_first b out other c text n
-    ]
+all_first b out other second c text h = grind (arith, common_steps)
 
 mark_is : (mark : List ℕ) (v c : CtxRef) (text : List ℕ) → SpellsContextId v mark → Mark mark v c text → SpellsContextId c text
-mark_is mark v c text is b =
-    let whole : text ≡ mark = nothing_behind (IsText mark) (Done v c) text b b.second.1 in
-    subst (λ (d : CtxRef). SpellsContextId d text) b.second.0 (subst (SpellsContextId v) (sym whole) is)
+mark_is mark v c text is b = grind (arith, common_steps)
 
 context_id_to : (c : CtxRef) (text : List ℕ) → ChooseOn c text → SpellsContextId c text
 context_id_to c text (inl m) = mark_is (codes "$") ctx.Choose c text refl m
@@ -217,22 +192,16 @@ class_solid : (p : ℕ → Bool) → ((c : ℕ) → is_space_start c ≡ true �
 class_solid p apart text all = wider p is_solid (is_solid_by p apart) text all
 
 both_solid : (P Q : List ℕ → Type 0) → AllSolid P → AllSolid Q → AllSolid (P ▹ Q)
-both_solid P Q h k text b = ap (list_all is_solid) b.split ∙ list_all-append is_solid b.front b.back ∙ and_from _ _ (h b.front b.first) (k b.back b.second)
+both_solid P Q h k text b = grind (arith, common_steps)
 
 text_solid : (bytes : List ℕ) → list_all is_solid bytes ≡ true → AllSolid (IsText bytes)
 text_solid bytes all text h = ap (list_all is_solid) h ∙ all
 
 port_solid : AllSolid IsOptionalPort
-port_solid text h =
-    elim h [
-      | inl e ↦ ap (list_all is_solid) e
-      | inr b ↦ both_solid (IsText (codes ":")) IsPort (text_solid (codes ":") refl) (λ t p. class_solid is_digit digit_apart t p.each) text b
-    ]
+port_solid text h = grind (arith, both_solid, text_solid, class_solid, digit_apart)
 
 bracketed_solid : (bracket close : List ℕ) (P : List ℕ → Type 0) → list_all is_solid bracket ≡ true → list_all is_solid close ≡ true → AllSolid P → AllSolid (IsText bracket ▹ P ▹ IsText close ▹ IsOptionalPort)
-bracketed_solid bracket close P first last h =
-    both_solid (IsText bracket) (P ▹ IsText close ▹ IsOptionalPort) (text_solid bracket first)
-    (both_solid P (IsText close ▹ IsOptionalPort) h (both_solid (IsText close) IsOptionalPort (text_solid close last) port_solid))
+bracketed_solid bracket close P first last h = search (rules, both_solid, text_solid, port_solid)
 
 mid_solid : AllSolid IsMid
 mid_solid text h =

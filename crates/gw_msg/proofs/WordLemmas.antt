@@ -1,5 +1,5 @@
 -- What a word stands for as a TerminationID or as an mId is what gw_base reads it as, and what the grammar says of it.
-use Rattle.std.proofs.Common.{◌≡◌, ℕ, Bool, true, false, cond, List, Some, None, Ok, Err, refl, ap, sym, subst, ◌∙◌}
+use Rattle.std.proofs.Common.{◌≡◌, ℕ, Bool, true, false, cond, List, Some, None, Ok, Err, refl, ap, sym, subst, ◌∙◌, arith}
 use Rattle.std.specs.Bool.{Decides}
 use Rattle.gw_base.specs.Mids.{IsMid, longest_mid}
 use Rattle.gw_base.specs.Reads.{ReadsAs}
@@ -43,7 +43,7 @@ pub mid_is : (mid w : List ℕ) → mid_of w ≡ Some mid → SpellsMid mid w
 mid_is mid w e = let c = chosen (is_mid w) (decides_mid w) w mid e in (sym c.1, c.0)
 
 pub mid_again : (mid w : List ℕ) → SpellsMid mid w → mid_of w ≡ Some mid
-mid_again mid w h = ap (λ (b : Bool). cond b (Some w) None) ((decides_mid w).1 h.1) ∙ ap (λ (x : List ℕ). Some x) (sym h.0)
+mid_again mid w h = grind (arith, decides_mid)
 
 pub mid_read : (w mid : List ℕ) → ReadsAs IsMid (longest_mid w) w (Ok mid) → mid_of w ≡ Some mid
 mid_read w mid h = mid_again mid w h

@@ -1,14 +1,13 @@
 -- Brackets as they are scanned are brackets as they are defined.
-use Rattle.std.proofs.Common.{◌≡◌, inl, inr, ℕ, zero, suc, ◌-◌, ◌<◌, Bool, true, false, cond, ◌==◌, List, [], ◌∷◌, ◌++◌, length, get_or, take, drop, Option, Some, None, Result, Ok, Err, refl, ap, sym, subst, ◌∙◌, append_assoc, length-append, arith}
+use Rattle.std.proofs.Common.{◌≡◌, inl, inr, ℕ, zero, suc, ◌-◌, ◌<◌, Bool, true, false, cond, ◌==◌, List, [], ◌∷◌, ◌++◌, length, get_or, take, drop, Option, Some, None, Ok, Err, refl, ap, sym, subst, ◌∙◌, append_assoc, length-append, arith}
 use Rattle.std.specs.List.{concat}
-use Rattle.std.proofs.lemmas.List.{take-append-drop, take_at, take_all, drop_at, length-take}
+use Rattle.std.proofs.lemmas.List.{take-append-drop, take_at, drop_at, length-take}
 use Rattle.std.proofs.lemmas.Bool.{eqb-true, eqb-false}
 use Rattle.gw_text.specs.Lexical.{quote_mark, left_bracket, right_bracket, is_space_start}
 use Rattle.gw_text.specs.Runs.{begins, is_byte, NoMore}
 use Rattle.gw_text.specs.Space.{Each}
 use Rattle.gw_text.specs.SpaceScan.{space_len, skip}
 use Rattle.gw_text.specs.Forms.{IsSomeRun}
-use Rattle.gw_text.specs.Longest.{IsLongest}
 use Rattle.gw_text.specs.Quoted.{IsQuoted}
 use Rattle.gw_text.specs.QuotedScan.{quoted_len}
 use Rattle.gw_text.specs.Bracket.{is_run_byte, is_bracket_byte, IsBracketPiece, IsBracket}
@@ -20,11 +19,11 @@ use Rattle.gw_text.proofs.SpaceLemmas.{space_is, space_len-le, space_again}
 use Rattle.gw_text.proofs.SpacePieces.{space_pieces}
 use Rattle.gw_text.proofs.Skips.{skip_space, skip_stays}
 use Rattle.gw_text.proofs.Signs.{some_is, same_byte}
-use Rattle.gw_text.proofs.Scanned.{run_found, no_run}
-use Rattle.gw_text.proofs.Leaves.{found_ok, run_read, span_reads}
+use Rattle.gw_text.proofs.Leaves.{found_ok, run_reads, eq_zero}
 use Rattle.gw_text.proofs.Links.{is_another, space_bytes, sep_ends, byte_apart_space}
 use Rattle.gw_text.proofs.ReadsUp.{ReadsUp, Same, Any}
-use Rattle.gw_text.proofs.OctetsScans.{quoted_sound, quoted_again}
+use Rattle.gw_text.proofs.OctetsScans.{quoted_sound, quoted_again, quoted_some}
+use Rattle.gw_text.proofs.RunLemmas.{whole_tail}
 
 -- ---- the piece at the front
 
@@ -35,15 +34,9 @@ pub record IsPassed (text left : List ℕ) : Type 0 where
   pub some : 0 < length piece
   pub is : IsBracketPiece piece
 
-quoted_some : (span : List ℕ) → IsQuoted span → 0 < length span
-quoted_some span h = omega (arith, ap length h.split, length-append h.front h.back, ap length h.first)
-
 quoted_passed : (text : List ℕ) (n : ℕ) → quoted_len text ≡ Some n → IsPassed text (drop n text)
 unfolding quoted_len
-quoted_passed text n e =
-    let q = quoted_sound text n e in
-    let left : drop n text ≡ q.1 = ap (drop n) q.2 ∙ drop_at q.0 q.1 n (sym q.3) in
-    record { piece = q.0; split = q.2 ∙ ap (λ (x : List ℕ). q.0 ++ x) (sym left); some = quoted_some q.0 q.4; is = inr (inl q.4) }
+quoted_passed text n e = grind (arith, drop_at, quoted_some, quoted_sound)
 
 space_passed : (text : List ℕ) (n : ℕ) (t : Bool) → space_len text == 0 ≡ t → cond t None (Some (space_len text)) ≡ Some n → IsPassed text (drop n text)
 space_passed text n true none e = absurd cc
@@ -63,8 +56,7 @@ piece_cases b bs n false true is e = quoted_passed (b ∷ bs) n e
 piece_cases b bs n false false is e = space_passed (b ∷ bs) n (space_len (b ∷ bs) == 0) refl e
 
 pub piece_passed : (text : List ℕ) (n : ℕ) → piece_len text ≡ Some n → IsPassed text (drop n text)
-piece_passed [] n e = absurd cc
-piece_passed (b ∷ bs) n e = piece_cases b bs n (is_bracket_byte b) (b == quote_mark) refl e
+piece_passed text n e = grind (arith, piece_cases)
 
 pub piece_shrinks : (text : List ℕ) (n : ℕ) → piece_len text ≡ Some n → length (drop n text) < length text
 piece_shrinks text n e = let p = piece_passed text n e in omega (arith, p.some, ap length p.split, length-append p.piece (drop n text))
@@ -72,8 +64,7 @@ piece_shrinks text n e = let p = piece_passed text n e in omega (arith, p.some, 
 -- ---- more fuel changes nothing
 
 same_over : (f g : List ℕ → Option (List ℕ)) (text : List ℕ) (o : Option ℕ) → ((n : ℕ) → o ≡ Some n → f (drop n text) ≡ g (drop n text)) → over f text o ≡ over g text o
-same_over f g text None h = refl
-same_over f g text (Some n) h = h n refl
+same_over f g text o h = grind arith
 
 bracket_enough : (n m : ℕ) (text : List ℕ) → length text < n → length text < m → bracket_from n text ≡ bracket_from m text
 unfolding bracket_from
@@ -91,17 +82,12 @@ bracket_closes text is = ap (λ (t : Bool). cond t (Some (drop 1 text)) (over (b
 -- a piece, and what is behind it
 pub bracket_goes_on : (text : List ℕ) (n : ℕ) → begins (is_byte right_bracket) text ≡ false → piece_len text ≡ Some n → bracket_rest text ≡ bracket_rest (drop n text)
 unfolding bracket_from
-bracket_goes_on text n is e =
-    ap (λ (t : Bool). cond t (Some (drop 1 text)) (over (bracket_from (length text)) text (piece_len text))) is
-    ∙ ap (over (bracket_from (length text)) text) e
-    ∙ bracket_enough (length text) (suc (length (drop n text))) (drop n text) (piece_shrinks text n e) (omega arith)
+bracket_goes_on text n is e = grind (arith, piece_shrinks, bracket_enough)
 
 -- neither
 pub bracket_fails : (text : List ℕ) → begins (is_byte right_bracket) text ≡ false → piece_len text ≡ None → bracket_rest text ≡ None
 unfolding bracket_from
-bracket_fails text is e =
-    ap (λ (t : Bool). cond t (Some (drop 1 text)) (over (bracket_from (length text)) text (piece_len text))) is
-    ∙ ap (over (bracket_from (length text)) text) e
+bracket_fails text is e = grind arith
 
 -- ---- what is scanned are pieces
 
@@ -111,8 +97,7 @@ pub record IsInner (text rest : List ℕ) : Type 0 where
   pub each : Each IsBracketPiece pieces
 
 close_first : (text rest : List ℕ) → begins (is_byte right_bracket) text ≡ true → drop 1 text ≡ rest → text ≡ right_bracket ∷ rest
-close_first [] rest is e = absurd cc
-close_first (b ∷ bs) rest is e = ap (λ (x : ℕ). x ∷ bs) (eqb-true b right_bracket is) ∙ ap (λ (x : List ℕ). right_bracket ∷ x) e
+close_first text rest is e = grind arith
 
 inner_more : (text left rest : List ℕ) → IsPassed text left → IsInner left rest → IsInner text rest
 inner_more text left rest p h = record {
@@ -140,9 +125,6 @@ byte_len b bs is = rw is refl
 quote_len : (text tail : List ℕ) (n : ℕ) → text ≡ quote_mark ∷ tail → quoted_len text ≡ Some n → piece_len text ≡ Some n
 quote_len text tail n first e = ap piece_len first ∙ ap quoted_len (sym first) ∙ e
 
-not_zero : (n : ℕ) → 0 < n → n == 0 ≡ false
-not_zero n h = grind arith
-
 bracket_apart : (b : ℕ) → is_space_start b ≡ true → is_bracket_byte b ≡ false
 bracket_apart = space_bytes (λ c. is_bracket_byte c ≡ false) refl refl refl refl refl
 
@@ -150,7 +132,7 @@ space_piece : (b : ℕ) (bs : List ℕ) → is_space_start b ≡ true → 0 < sp
 space_piece b bs start some =
     let safe : is_bracket_byte b ≡ false = bracket_apart b start in
     let quote : b == quote_mark ≡ false = is_another b quote_mark is_space_start refl start in
-    let n : space_len (b ∷ bs) == 0 ≡ false = not_zero (space_len (b ∷ bs)) some in
+    let n : space_len (b ∷ bs) == 0 ≡ false = eq_zero (space_len (b ∷ bs)) some in
     rw (safe, quote, n) refl
 
 over_cases : (b : ℕ) (bs : List ℕ) (t z : Bool) → is_space_start b ≡ t → space_len (b ∷ bs) == 0 ≡ z → bracket_rest (b ∷ bs) ≡ bracket_rest (drop (space_len (b ∷ bs)) (b ∷ bs))
@@ -162,8 +144,7 @@ over_cases b bs false false is some =
 
 over_space : (text : List ℕ) → bracket_rest text ≡ bracket_rest (skip text)
 unfolding skip
-over_space [] = ap bracket_rest (sym (skip_stays [] refl))
-over_space (b ∷ bs) = over_cases b bs (is_space_start b) (space_len (b ∷ bs) == 0) refl refl
+over_space text = grind (arith, over_cases, skip_stays)
 
 quoted_over : (piece more : List ℕ) → IsQuoted piece → bracket_rest (piece ++ more) ≡ bracket_rest more
 unfolding quoted_len
@@ -203,18 +184,7 @@ some_pieces (p ∷ ps) text rest whole is = omega arith
 
 pub bracket_again : (span rest : List ℕ) → IsBracket span → bracket_at (span ++ rest) ≡ Ok (span, rest)
 unfolding bracket_at
-bracket_again span rest h =
-    let inner : List ℕ = concat h.pieces ++ right_bracket ∷ rest in
-    let whole : span ++ rest ≡ left_bracket ∷ inner = ap (λ (x : List ℕ). x ++ rest) h.whole ∙ ap (λ (x : List ℕ). left_bracket ∷ x) (append_assoc (concat h.pieces) (right_bracket ∷ []) rest) in
-    let not-closed : begins (is_byte right_bracket) inner ≡ false = first_other h.pieces (right_bracket ∷ rest) h.some h.each in
-    let ends : bracket_ends (span ++ rest) ≡ Some rest = ap bracket_ends whole ∙ ap (λ (t : Bool). cond t None (bracket_rest inner)) not-closed ∙ pieces_over h.pieces rest h.each in
-    let n : length (span ++ rest) - length rest ≡ length span = omega (arith, length-append span rest) in
-    ap (span_before (span ++ rest)) ends ∙ rw (n, take_at span rest (length span) refl) refl
-
--- what a scan of a bracket took
-pub record IsTakenBracket (text span rest : List ℕ) : Type 0 where
-  pub split : text ≡ span ++ rest
-  pub bracket : IsBracket span
+bracket_again span rest h = grind (arith, pieces_over, first_other, append_assoc, length-append, take_at)
 
 bracket_text : (text rest : List ℕ) (b : ℕ) (bs : List ℕ) → text ≡ b ∷ bs → (t u : Bool) → b == left_bracket ≡ t → begins (is_byte right_bracket) bs ≡ u → cond t (cond u None (bracket_rest bs)) None ≡ Some rest → (span : List ℕ) × (text ≡ span ++ rest) × IsBracket span
 bracket_text text rest b bs first false u is closed e = absurd cc
@@ -232,32 +202,15 @@ bracket_split [] rest e = absurd cc
 bracket_split (b ∷ bs) rest e = bracket_text (b ∷ bs) rest b bs refl (b == left_bracket) (begins (is_byte right_bracket) bs) refl refl e
 
 before_cases : (text span rest : List ℕ) (o : Option (List ℕ)) → bracket_ends text ≡ o → span_before text o ≡ Ok (span, rest) → (text ≡ span ++ rest) × IsBracket span
-before_cases text span rest None is e = absurd cc
-before_cases text span rest (Some left) is e =
-    let b = bracket_split text left is in
-    let s : ◌≡◌ {A = List ℕ × List ℕ} (take (length text - length left) text, left) (span, rest) = cc in
-    let left-is : left ≡ rest = ap (λ (p : List ℕ × List ℕ). p.1) s in
-    let n : length text - length left ≡ length b.0 = omega (arith, ap length b.1, length-append b.0 left) in
-    let front : take (length text - length left) text ≡ b.0 = ap (λ (m : ℕ). take m text) n ∙ ap (take (length b.0)) b.1 ∙ take_at b.0 left (length b.0) refl in
-    let span-is : span ≡ b.0 = sym (ap (λ (p : List ℕ × List ℕ). p.0) s) ∙ front in
-    (b.1 ∙ ap (λ (x : List ℕ). x ++ left) (sym span-is) ∙ ap (λ (x : List ℕ). span ++ x) left-is, subst IsBracket (sym span-is) b.2)
+before_cases text span rest o is e = grind (arith, bracket_split, length-append, take_at)
 
 pub bracket_took : (text span rest : List ℕ) → bracket_at text ≡ Ok (span, rest) → (text ≡ span ++ rest) × IsBracket span
 unfolding bracket_at
 bracket_took text span rest e = before_cases text span rest (bracket_ends text) refl e
 
-before_fault : (text : List ℕ) (o : Option (List ℕ)) (f : ScanFault) → span_before text o ≡ Err f → f ≡ Unexpected
-before_fault text None f e = cc
-before_fault text (Some rest) f e = absurd cc
-
 pub no_bracket : (text : List ℕ) (f : ScanFault) → bracket_at text ≡ Err f → (f ≡ Unexpected) × ((before after : List ℕ) → text ≡ before ++ after → ¬ IsBracket before)
 unfolding bracket_at
-no_bracket text f e = (
-  before_fault text (bracket_ends text) f e,
-  λ before after split h.
-      let clash : ◌≡◌ {A = Result (List ℕ × List ℕ) ScanFault} (Err f) (Ok (before, after)) = sym e ∙ ap bracket_at split ∙ bracket_again before after h in
-      absurd cc,
-)
+no_bracket text f e = grind (arith, bracket_again)
 
 -- a bracket, as it is
 pub up_bracket : ReadsUp bracket_read (λ span text. (span ≡ text) × IsBracket text) Any Same Same
@@ -273,26 +226,12 @@ bracket_begins text h = ap (begins (is_byte left_bracket)) h.whole
 
 -- ---- runs
 
-pub run_took : (text span rest : List ℕ) → run_at text ≡ Ok (span, rest) → IsLongest (IsSomeRun is_run_byte) text span rest
-unfolding run_at
-run_took text span rest e = run_found is_run_byte text span rest e
-
-pub no_run_there : (text : List ℕ) (f : ScanFault) → run_at text ≡ Err f → (f ≡ Unexpected) × (begins is_run_byte text ≡ false)
-unfolding run_at
-no_run_there text f e = no_run is_run_byte text f e
-
-run_again_at : (front rest : List ℕ) → IsSomeRun is_run_byte front → NoMore is_run_byte rest → run_at (front ++ rest) ≡ Ok (front, rest)
-unfolding run_at
-run_again_at front rest h ends = run_read is_run_byte front rest h ends
-
 -- a run that stands for a value
 pub up_run : {V : Type 0} (of : List ℕ → Option V) → ReadsUp (run_as of) (λ v text. IsSomeRun is_run_byte text × (of text ≡ Some v)) (NoMore is_run_byte) Same Same
-up_run of = span_reads is_run_byte run_at of run_took run_again_at
+unfolding run_at
+up_run of = run_reads is_run_byte of
 
 -- ---- as a length is answered
-
-whole_tail : (b : ℕ) (bs : List ℕ) → take (length (b ∷ bs) - 1) (drop 1 (b ∷ bs)) ≡ bs
-whole_tail b bs = take_all (length (b ∷ bs) - 1) bs (omega arith)
 
 pub bracket_len_at : (text rest : List ℕ) → 0 < length text → get_or text 0 0 ≡ left_bracket → begins (is_byte right_bracket) (take (length text - 1) (drop 1 text)) ≡ false → bracket_rest (take (length text - 1) (drop 1 text)) ≡ Some rest
     → bracket_at text ≡ Ok (take (length text - length rest) text, drop (length text - length rest) text)
@@ -308,3 +247,5 @@ bracket_len_at (b ∷ bs) rest some first closed e =
     let n : length split.0 ≡ length (b ∷ bs) - length rest = omega (arith, ap length split.1, length-append split.0 rest) in
     let left : drop (length (b ∷ bs) - length rest) (b ∷ bs) ≡ rest = ap (drop (length (b ∷ bs) - length rest)) split.1 ∙ drop_at split.0 rest (length (b ∷ bs) - length rest) n in
     found-is ∙ ap (λ (x : List ℕ). Ok (take (length (b ∷ bs) - length rest) (b ∷ bs), x)) (sym left)
+
+pub ruleset bracket_steps = (bracket_closes, bracket_goes_on, bracket_fails, piece_shrinks)

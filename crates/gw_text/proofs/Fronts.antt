@@ -1,7 +1,19 @@
--- A run is as long as what stands at the front of a text while the class goes on.
-use Rattle.std.proofs.Common.{◌≡◌, ℕ, suc, ◌+◌, Bool, cond, List, [], ◌∷◌, length, take, refl, ap, ◌∙◌, arith}
+-- The bytes of a class at the front of a text, counted by an iterator, are a run.
+use denote.Param.Members.{Mut}
+use denote.Ref.{Bor}
+use Rattle.std.specs.declared.iter.TakeWhile.{TakeWhile}
+use Rattle.std.specs.declared.slice.Iter.{Iter}
+use Rattle.std.proofs.Common.{◌≡◌, ℕ, suc, ◌+◌, Bool, false, cond, List, [], ◌∷◌, length, refl, ap, ◌∙◌, arith}
+use Rattle.std.specs.Fn.{CalledAt}
+use Rattle.std.specs.Iterator.{Drains}
+use Rattle.std.specs.Iterator.Adapters.{take_while_source, take_while_done, take_while_callee, take_while_steps}
 use Rattle.std.specs.List.{prefix_len}
+use Rattle.std.specs.Slice.Iter.{iter_rest}
+use Rattle.std.proofs.iter.Yields.{fronts}
 use Rattle.std.proofs.lemmas.List.Folds.{length-prefix_len}
+use Rattle.std.proofs.lemmas.Iterator.{YieldsList-from_slice}
+use Rattle.std.proofs.lemmas.Iterator.Consumers.{count_from_yields_List}
+use Rattle.std.proofs.lemmas.Iterator.Search.{YieldsList-from_take_while}
 use Rattle.gw_text.specs.Runs.{run_len}
 
 run_is_prefix : (p : ℕ → Bool) (text : List ℕ) → prefix_len p text ≡ run_len p text
@@ -10,5 +22,11 @@ run_is_prefix p (b ∷ bs) =
     let more : 1 + prefix_len p bs ≡ suc (run_len p bs) = omega (arith, run_is_prefix p bs) in
     ap (λ n. cond (p b) n 0) more
 
-pub front_is_run : (p : ℕ → Bool) (text : List ℕ) → length (take (prefix_len p text) text) ≡ run_len p text
-front_is_run p text = length-prefix_len p text ∙ run_is_prefix p text
+-- how many a `take_while` over the text counts, where the closure is the test of the class
+pub counted_run : {F : Type 0} {s : TakeWhile (Iter ℕ) F} {g : Mut F (Bor (Bor ℕ) × Unit {0}) Bool} {f : F} (p : ℕ → Bool) (text : List ℕ) (n : ℕ)
+    → ((xs : List (Bor ℕ)) × Drains (take_while_steps fronts g) s xs × (n ≡ length xs)) → iter_rest (take_while_source s) ≡ text → take_while_callee s ≡ f → take_while_done s ≡ false
+    → ((x : Bor ℕ) (b : Bool) (q : F) → CalledAt g f x b q → (q ≡ f) × (b ≡ p x.now)) → n ≡ run_len p text
+counted_run {g = g} p text n ran source closure done called =
+    count_from_yields_List _ n ran (YieldsList-from_take_while g p (YieldsList-from_slice text source) closure done called)
+    ∙ length-prefix_len p text
+    ∙ run_is_prefix p text

@@ -1,10 +1,9 @@
 -- Pieces that may stand in a group are passed one after another.
 use Rattle.std.proofs.Common.{◌≡◌, ℕ, suc, ◌+◌, ◌-◌, ◌≤◌, ◌<◌, Bool, true, false, cond, not, ◌==◌, ◌&&◌, List, [], ◌∷◌, ◌++◌, length, take, drop, Some, Result, Ok, Err, refl, ap, sym, ◌∙◌, append_assoc, length-append, arith}
-use Rattle.std.specs.Prelude.{nat_le}
 use Rattle.std.proofs.lemmas.List.{take_at, drop_at}
-use Rattle.std.proofs.lemmas.Bool.{eqb-true, eqb-false}
+use Rattle.std.proofs.lemmas.Bool.{eqb-true, eqb-false, and_parts, eq-eqb, lt-leb, le-leb}
 use Rattle.gw_text.specs.Lexical.{nul, quote_mark, left_brace, right_brace, is_safe, is_solid, is_space_start}
-use Rattle.gw_text.specs.Runs.{begins, run_len, NoMore}
+use Rattle.gw_text.specs.Runs.{run_len, NoMore}
 use Rattle.gw_text.specs.Space.{IsSep}
 use Rattle.gw_text.specs.SpaceScan.{space_len, skip}
 use Rattle.gw_text.specs.Forms.{IsWord}
@@ -13,23 +12,21 @@ use Rattle.gw_text.specs.QuotedScan.{quoted_len}
 use Rattle.gw_text.specs.Octets.{IsOctets}
 use Rattle.gw_text.specs.OctetsScan.{octets_ends}
 use Rattle.gw_text.specs.Group.{Pieces, nothing, space, quoted, word, mark, octets, group, text_of, is_mark, after_word, after_mark, after, begins_octets, is_word_first, AreValid, IsGroup, open_text, GoesDeeper, AreOpen, IsTooDeep}
-use Rattle.gw_text.specs.GroupScan.{ScanStep, place, passed, octets_passed, step_at, group_rest, group_found, balanced_at}
+use Rattle.gw_text.specs.GroupScan.{ScanStep, place, step_at, group_rest, group_found, balanced_at}
 use Rattle.gw_text.specs.declared.group.Before.{Before}
-use Rattle.gw_text.specs.declared.group.Before.TheVariants.{Equals, OctetsWord, Other}
+use Rattle.gw_text.specs.declared.group.Before.TheVariants.{Other}
 use Rattle.gw_text.specs.declared.fault.ScanFault.{ScanFault}
 use Rattle.gw_text.specs.declared.fault.ScanFault.TheVariants.{TooDeep}
-use Rattle.gw_text.proofs.RunLemmas.{run_again, and_true}
+use Rattle.gw_text.proofs.RunLemmas.{run_again}
 use Rattle.gw_text.proofs.SpaceLemmas.{space_again}
 use Rattle.gw_text.proofs.Skips.{skip_space, skip_stays}
 use Rattle.gw_text.proofs.Links.{is_another, safe_apart, solid_apart, sep_ends}
 use Rattle.gw_text.proofs.OctetsLemmas.{octets_again, octets_are}
 use Rattle.gw_text.proofs.OctetsScans.{quoted_again}
-use Rattle.gw_text.proofs.GroupSteps.{rest_goes_on, rest_ends, rest_fails, is_zero, not_zero}
+use Rattle.gw_text.proofs.GroupSteps.{rest_goes_on, rest_ends, rest_fails}
+use Rattle.gw_text.proofs.Leaves.{eq_zero}
 
 -- ---- the step over each kind of piece
-
-pick3 : (a b c : Bool) (x1 x2 x3 y : ScanStep) → a ≡ false → b ≡ false → c ≡ true → cond a x1 (cond b x2 (cond c x3 y)) ≡ x3
-pick3 a b c x1 x2 x3 y p q r = rw (p, q, r) refl
 
 pick4 : (a b c d : Bool) (x1 x2 x3 x4 y : ScanStep) → a ≡ false → b ≡ false → c ≡ false → d ≡ true → cond a x1 (cond b x2 (cond c x3 (cond d x4 y))) ≡ x4
 pick4 a b c d x1 x2 x3 x4 y p q r s = rw (p, q, r, s) refl
@@ -40,30 +37,17 @@ pick5 a b c d e x1 x2 x3 x4 x5 y p q r s t = rw (p, q, r, s, t) refl
 pick6 : (a b c d e : Bool) (x1 x2 x3 x4 x5 y : ScanStep) → a ≡ false → b ≡ false → c ≡ false → d ≡ false → e ≡ false → cond a x1 (cond b x2 (cond c x3 (cond d x4 (cond e x5 y)))) ≡ y
 pick6 a b c d e x1 x2 x3 x4 x5 y p q r s t = rw (p, q, r, s, t) refl
 
-not_below : (limit depth : ℕ) → depth < limit → nat_le limit depth ≡ false
-not_below limit depth h = grind arith
-
-below : (limit depth : ℕ) → limit ≤ depth → nat_le limit depth ≡ true
-below limit depth h = grind arith
-
 open_step : (limit depth : ℕ) (before : Before) (inner : List ℕ) → depth < limit → begins_octets before ≡ false → step_at limit (place depth before) (left_brace ∷ inner) ≡ Ok (place (depth + 1) Other, 1)
 unfolding step_at
-open_step limit depth OctetsWord inner room kind = absurd cc
-open_step limit depth Equals inner room kind = rw (not_below limit depth room) refl
-open_step limit depth Other inner room kind = rw (not_below limit depth room) refl
+open_step limit depth before inner room kind = grind arith
 
 pub deep_step : (limit depth : ℕ) (before : Before) (inner : List ℕ) → limit ≤ depth → step_at limit (place depth before) (left_brace ∷ inner) ≡ Err TooDeep
 unfolding step_at
-deep_step limit depth before inner full = rw (below limit depth full) refl
+deep_step limit depth before inner full = rw (le-leb limit depth full) refl
 
 octets_step : (limit depth : ℕ) (before : Before) (body more : List ℕ) → depth < limit → begins_octets before ≡ true → IsOctets body → step_at limit (place depth before) (left_brace ∷ (body ++ right_brace ∷ more)) ≡ Ok (place depth Other, length body + 2)
 unfolding step_at octets_ends
-octets_step limit depth Equals body more room kind h = absurd cc
-octets_step limit depth Other body more room kind h = absurd cc
-octets_step limit depth OctetsWord body more room kind h =
-    let ends = octets_again false 0 0 body more (octets_are body h) in
-    let z : 0 + length body ≡ length body = omega arith in
-    rw (not_below limit depth room) (ap (octets_passed depth) ends ∙ rw z refl)
+octets_step limit depth before body more room kind h = grind (arith, lt-leb, octets_again, octets_are)
 
 close_step : (limit depth : ℕ) (before : Before) (more : List ℕ) → step_at limit (place depth before) (right_brace ∷ more) ≡ Ok (place (depth - 1) Other, 1)
 unfolding step_at
@@ -71,8 +55,7 @@ close_step limit depth before more = refl
 
 quoted_first : (limit depth : ℕ) (before : Before) (text tail : List ℕ) (len : ℕ) → text ≡ quote_mark ∷ tail → quoted_len text ≡ Some len → step_at limit (place depth before) text ≡ Ok (place depth Other, len)
 unfolding step_at
-quoted_first limit depth before text tail len first e =
-    ap (step_at limit (place depth before)) first ∙ ap (passed (place depth Other)) (ap quoted_len (sym first) ∙ e)
+quoted_first limit depth before text tail len first e = grind arith
 
 quoted_step : (limit depth : ℕ) (before : Before) (span more : List ℕ) → IsQuoted span → step_at limit (place depth before) (span ++ more) ≡ Ok (place depth Other, length span)
 unfolding quoted_len
@@ -83,42 +66,32 @@ quoted_step limit depth before span more h =
 word_by : (depth : ℕ) (before : Before) (text w : List ℕ) (n : ℕ) → n ≡ length w → take (length w) text ≡ w → let x : ScanStep = Ok (place depth (after_word before (take n text)), n) in x ≡ Ok (place depth (after_word before w), length w)
 word_by depth before text w n e is = rw (e, is) refl
 
-not_true : (b : Bool) → not b ≡ true → b ≡ false
-not_true false h = refl
-not_true true h = absurd cc
-
 word_step : (limit depth : ℕ) (before : Before) (w more : List ℕ) → IsWord w → NoMore is_safe more → step_at limit (place depth before) (w ++ more) ≡ Ok (place depth (after_word before w), length w)
 unfolding step_at
 word_step limit depth before [] more h ends = absurd (let some = h.some in omega arith)
 word_step limit depth before (b ∷ bs) more h ends =
-    let safe : is_safe b ≡ true = (and_true (is_safe b) _ h.run).0 in
+    let safe : is_safe b ≡ true = (and_parts (is_safe b) _ h.run).0 in
     let n : run_len is_safe (b ∷ (bs ++ more)) ≡ length (b ∷ bs) = run_again is_safe (b ∷ bs) more h.run ends in
     pick4 (b == left_brace) (b == right_brace) (b == quote_mark) (is_safe b) _ _ _ _ _ (is_another b left_brace is_safe refl safe) (is_another b right_brace is_safe refl safe) (is_another b quote_mark is_safe refl safe) safe
     ∙ word_by depth before (b ∷ (bs ++ more)) (b ∷ bs) (run_len is_safe (b ∷ (bs ++ more))) n (take_at (b ∷ bs) more (length (b ∷ bs)) refl)
 
+mark_parts : (s o z q l r : Bool) → not s && o && not z && not q && not l && not r ≡ true → (s ≡ false) × (o ≡ true) × (z ≡ false) × (q ≡ false) × (l ≡ false) × (r ≡ false)
+mark_parts s o z q l r h = grind arith
+
 mark_step : (limit depth : ℕ) (before : Before) (b : ℕ) (more : List ℕ) → is_mark b ≡ true → step_at limit (place depth before) (b ∷ more) ≡ Ok (place depth (after_mark b), 1)
 unfolding step_at
-mark_step limit depth before b more h =
-    let r = and_true (not (is_safe b) && is_solid b && not (b == nul) && not (b == quote_mark) && not (b == left_brace)) (not (b == right_brace)) h in
-    let l = and_true (not (is_safe b) && is_solid b && not (b == nul) && not (b == quote_mark)) (not (b == left_brace)) r.0 in
-    let q = and_true (not (is_safe b) && is_solid b && not (b == nul)) (not (b == quote_mark)) l.0 in
-    let z = and_true (not (is_safe b) && is_solid b) (not (b == nul)) q.0 in
-    let s = and_true (not (is_safe b)) (is_solid b) z.0 in
-    let some : b == nul ≡ false = not_true (b == nul) z.1 in
-    pick5 (b == left_brace) (b == right_brace) (b == quote_mark) (is_safe b) (is_solid b) _ _ _ _ _ _ (not_true (b == left_brace) l.1) (not_true (b == right_brace) r.1) (not_true (b == quote_mark) q.1) (not_true (is_safe b) s.0) s.1
-    ∙ rw some refl
+mark_step limit depth before b more h = grind (arith, pick5, mark_parts)
 
 space_step : (limit depth : ℕ) (before : Before) (b : ℕ) (bs : List ℕ) → is_space_start b ≡ true → 0 < space_len (b ∷ bs) → step_at limit (place depth before) (b ∷ bs) ≡ Ok (place depth before, space_len (b ∷ bs))
 unfolding step_at
 space_step limit depth before b bs start some =
     pick6 (b == left_brace) (b == right_brace) (b == quote_mark) (is_safe b) (is_solid b) _ _ _ _ _ _ (is_another b left_brace is_space_start refl start) (is_another b right_brace is_space_start refl start) (is_another b quote_mark is_space_start refl start) (safe_apart b start) (solid_apart b start)
-    ∙ rw (not_zero (space_len (b ∷ bs)) some) refl
+    ∙ rw (eq_zero (space_len (b ∷ bs)) some) refl
 
 -- ---- on behind each
 
 behind_step : (limit k : ℕ) (before to : Before) (text left : List ℕ) (n : ℕ) → step_at limit (place (suc k) before) text ≡ Ok (place (suc k) to, n) → drop n text ≡ left → group_rest limit (place (suc k) before) text ≡ group_rest limit (place (suc k) to) left
-behind_step limit k before to text left n e is =
-    rest_goes_on limit (place (suc k) before) text (place (suc k) to) n e (not_zero (suc k) (omega arith)) ∙ ap (group_rest limit (place (suc k) to)) is
+behind_step limit k before to text left n e is = grind (arith, eq_zero, rest_goes_on)
 
 over_cases : (limit k : ℕ) (before : Before) (b : ℕ) (bs : List ℕ) (t : Bool) → is_space_start b ≡ t → (z : Bool) → space_len (b ∷ bs) == 0 ≡ z → group_rest limit (place (suc k) before) (b ∷ bs) ≡ group_rest limit (place (suc k) before) (drop (space_len (b ∷ bs)) (b ∷ bs))
 over_cases limit k before b bs t is true none = ap (λ (n : ℕ). group_rest limit (place (suc k) before) (drop n (b ∷ bs))) (sym (eqb-true (space_len (b ∷ bs)) 0 none))
@@ -131,31 +104,17 @@ over_cases limit k before b bs false is false some =
 -- white space in front of anything is passed
 over_space : (limit k : ℕ) (before : Before) (text : List ℕ) → group_rest limit (place (suc k) before) text ≡ group_rest limit (place (suc k) before) (skip text)
 unfolding skip
-over_space limit k before [] = ap (group_rest limit (place (suc k) before)) (sym (skip_stays [] refl))
-over_space limit k before (b ∷ bs) = over_cases limit k before b bs (is_space_start b) refl (space_len (b ∷ bs) == 0) refl
+over_space limit k before text = grind (arith, over_cases, skip_stays)
 
 space_passed : (limit k : ℕ) (before : Before) (span more : List ℕ) → IsSep span → group_rest limit (place (suc k) before) (span ++ more) ≡ group_rest limit (place (suc k) before) more
 space_passed limit k before span more h = over_space limit k before (span ++ more) ∙ ap (group_rest limit (place (suc k) before)) (skip_space span more h.space) ∙ sym (over_space limit k before more)
 
 mark_unsafe : (b : ℕ) → is_mark b ≡ true → is_safe b ≡ false
-mark_unsafe b h =
-    let r = and_true (not (is_safe b) && is_solid b && not (b == nul) && not (b == quote_mark) && not (b == left_brace)) (not (b == right_brace)) h in
-    let l = and_true (not (is_safe b) && is_solid b && not (b == nul) && not (b == quote_mark)) (not (b == left_brace)) r.0 in
-    let q = and_true (not (is_safe b) && is_solid b && not (b == nul)) (not (b == quote_mark)) l.0 in
-    let z = and_true (not (is_safe b) && is_solid b) (not (b == nul)) q.0 in
-    not_true (is_safe b) (and_true (not (is_safe b)) (is_solid b) z.0).0
+mark_unsafe b h = (mark_parts (is_safe b) (is_solid b) (b == nul) (b == quote_mark) (b == left_brace) (b == right_brace) h).0
 
 -- what stands behind a word does not go on with it
 word_ends : (levels : ℕ) (before : Before) (rest : Pieces) (behind : List ℕ) → AreValid levels before rest → is_word_first rest ≡ false → NoMore is_safe behind → NoMore is_safe (text_of rest ++ behind)
-word_ends levels before nothing behind v first ends = ends
-word_ends levels before (space span rest) behind v first ends = ap (begins is_safe) (append_assoc span (text_of rest) behind) ∙ sep_ends is_safe safe_apart span (text_of rest ++ behind) v.0
-word_ends levels before (quoted span rest) behind v first ends =
-    let q = v.0 in
-    ap (λ (x : List ℕ). begins is_safe ((x ++ text_of rest) ++ behind)) (q.split ∙ ap (λ (x : List ℕ). x ++ q.back) q.first)
-word_ends levels before (word w rest) behind v first ends = absurd cc
-word_ends levels before (mark b rest) behind v first ends = mark_unsafe b v.0
-word_ends levels before (octets body rest) behind v first ends = refl
-word_ends levels before (group inside rest) behind v first ends = refl
+word_ends levels before rest behind v first ends = grind (arith, mark_unsafe, append_assoc, safe_apart, sep_ends)
 
 -- ---- pieces are passed
 
@@ -197,11 +156,11 @@ pieces_passed limit k levels before (group inside rest) behind v deep ends =
     let room : suc k < limit = omega (arith, some, deep) in
     let one : suc k + 1 ≡ suc (suc k) = omega arith in
     let opens : group_rest limit (place (suc k) before) (left_brace ∷ (text_of inside ++ close)) ≡ group_rest limit (place (suc (suc k)) Other) (text_of inside ++ close) =
-    rest_goes_on limit (place (suc k) before) (left_brace ∷ (text_of inside ++ close)) (place (suc k + 1) Other) 1 (open_step limit (suc k) before (text_of inside ++ close) room v.0) (not_zero (suc k + 1) (omega arith))
+    rest_goes_on limit (place (suc k) before) (left_brace ∷ (text_of inside ++ close)) (place (suc k + 1) Other) 1 (open_step limit (suc k) before (text_of inside ++ close) room v.0) (eq_zero (suc k + 1) (omega arith))
     ∙ ap (λ (d : ℕ). group_rest limit (place d Other) (text_of inside ++ close)) one in
     let two : suc (suc k) - 1 ≡ suc k = omega arith in
     let closes : group_rest limit (place (suc (suc k)) (after Other inside)) close ≡ group_rest limit (place (suc k) Other) more =
-    rest_goes_on limit (place (suc (suc k)) (after Other inside)) close (place (suc (suc k) - 1) Other) 1 (close_step limit (suc (suc k)) (after Other inside) more) (not_zero (suc (suc k) - 1) (omega arith))
+    rest_goes_on limit (place (suc (suc k)) (after Other inside)) close (place (suc (suc k) - 1) Other) 1 (close_step limit (suc (suc k)) (after Other inside) more) (eq_zero (suc (suc k) - 1) (omega arith))
     ∙ ap (λ (d : ℕ). group_rest limit (place d Other) more) two in
     ap (group_rest limit (place (suc k) before)) regroup
     ∙ opens
@@ -212,16 +171,14 @@ pieces_passed limit k levels before (group inside rest) behind v deep ends =
 -- ---- a group is found whole, whatever follows it
 
 found_whole : (g rest : List ℕ) → group_found (g ++ rest) (Ok rest) ≡ Ok (g, rest)
-found_whole g rest =
-    let n : length (g ++ rest) - length rest ≡ length g = omega (arith, length-append g rest) in
-    rw (n, take_at g rest (length g) refl) refl
+found_whole g rest = grind (arith, length-append, take_at)
 
 pub group_again : (depth : ℕ) (g rest : List ℕ) → IsGroup depth g → balanced_at depth (g ++ rest) ≡ Ok (g, rest)
 unfolding balanced_at
 group_again depth g rest h =
     let inside : List ℕ = text_of h.inside in
     let some = h.some in
-    let not-none : depth == 0 ≡ false = not_zero depth some in
+    let not-none : depth == 0 ≡ false = eq_zero depth some in
     let close : List ℕ = right_brace ∷ rest in
     let regroup : (inside ++ right_brace ∷ []) ++ rest ≡ inside ++ close = append_assoc inside (right_brace ∷ []) rest in
     let passed-all : group_rest depth (place 1 Other) (inside ++ close) ≡ group_rest depth (place 1 (after Other h.inside)) close = pieces_passed depth 0 (depth - 1) Other h.inside close h.valid (omega (arith, some)) refl in
@@ -247,19 +204,19 @@ deepens (q ∷ qs) limit k levels p rest v goes valid deep full =
     let one : suc k + 1 ≡ suc (suc k) = omega arith in
     ap (λ (x : List ℕ). group_rest limit (place (suc k) Other) (text_of p ++ x)) regroup
     ∙ pieces_passed limit k levels Other p (left_brace ∷ inner) v deep refl
-    ∙ rest_goes_on limit (place (suc k) (after Other p)) (left_brace ∷ inner) (place (suc k + 1) Other) 1 (open_step limit (suc k) (after Other p) inner (omega (arith, full)) goes) (not_zero (suc k + 1) (omega arith))
+    ∙ rest_goes_on limit (place (suc k) (after Other p)) (left_brace ∷ inner) (place (suc k + 1) Other) 1 (open_step limit (suc k) (after Other p) inner (omega (arith, full)) goes) (eq_zero (suc k + 1) (omega arith))
     ∙ ap (λ (d : ℕ). group_rest limit (place d Other) inner) one
     ∙ deepens qs limit (suc k) (levels - 1) q rest valid.0 valid.1 valid.2 (omega (arith, deep, full)) (omega (arith, full))
 
 too_deep_cases : (depth : ℕ) (groups : List Pieces) (rest : List ℕ) → length groups ≡ depth → AreOpen depth groups → balanced_at depth (open_text groups ++ left_brace ∷ rest) ≡ Err TooDeep
 unfolding balanced_at
 too_deep_cases depth [] rest full valid =
-    let none : depth == 0 ≡ true = is_zero depth (sym full) in
+    let none : depth == 0 ≡ true = eq-eqb depth 0 (sym full) in
     rw none refl
 too_deep_cases depth (p ∷ ps) rest full valid =
     let inner : List ℕ = text_of p ++ (open_text ps ++ left_brace ∷ rest) in
     let regroup : open_text (p ∷ ps) ++ left_brace ∷ rest ≡ left_brace ∷ inner = ap (λ (x : List ℕ). left_brace ∷ x) (append_assoc (text_of p) (open_text ps) (left_brace ∷ rest)) in
-    let not-none : depth == 0 ≡ false = not_zero depth (omega (arith, full)) in
+    let not-none : depth == 0 ≡ false = eq_zero depth (omega (arith, full)) in
     let deep : group_rest depth (place 1 Other) inner ≡ Err TooDeep = deepens ps depth 0 (depth - 1) p rest valid.0 valid.1 valid.2 (omega (arith, full)) (omega (arith, full)) in
     ap (balanced_at depth) regroup
     ∙ ap (λ (t : Bool). cond t (Err TooDeep) (group_found (left_brace ∷ inner) (group_rest depth (place 1 Other) inner))) not-none
@@ -276,5 +233,4 @@ pub deep_fault : (depth : ℕ) (text : List ℕ) (f : ScanFault) → IsTooDeep d
 deep_fault depth text f deep e = scan_fault f TooDeep (sym e ∙ too_deep_again depth text deep)
 
 pub no_group_deep : (depth : ℕ) (text span rest : List ℕ) → IsTooDeep depth text → balanced_at depth text ≡ Ok (span, rest) → ⊥
-no_group_deep depth text span rest deep e =
-    let clash : ◌≡◌ {A = Result (List ℕ × List ℕ) ScanFault} (Ok (span, rest)) (Err TooDeep) = sym e ∙ too_deep_again depth text deep in absurd cc
+no_group_deep depth text span rest deep e = grind (arith, too_deep_again)

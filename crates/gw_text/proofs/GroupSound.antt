@@ -1,25 +1,25 @@
 -- What the scan of a group takes is a group, and it says that a brace lies too deep only where one does.
-use Rattle.std.proofs.Common.{◌≡◌, ◌⊎◌, inl, inr, ℕ, zero, suc, ◌+◌, ◌-◌, ◌≤◌, ◌<◌, Bool, true, false, cond, ◌==◌, List, [], ◌∷◌, ◌++◌, length, get_or, take, drop, Option, Some, None, Result, Ok, Err, refl, ap, sym, subst, ◌∙◌, append_assoc, length-append, arith}
+use Rattle.std.proofs.Common.{◌≡◌, ◌⊎◌, inl, inr, ℕ, zero, suc, ◌+◌, ◌-◌, ◌≤◌, ◌<◌, Bool, true, false, cond, ◌==◌, List, [], ◌∷◌, ◌++◌, length, get_or, take, drop, Option, Result, Ok, Err, refl, ap, sym, subst, ◌∙◌, append_assoc, length-append, arith}
 use Rattle.std.specs.Prelude.{nat_le}
 use Rattle.std.specs.List.{list_all}
-use Rattle.std.proofs.lemmas.List.{take_at, drop_at, take_all}
-use Rattle.std.proofs.lemmas.Bool.{eqb-true, eqb-false, leb-true}
+use Rattle.std.proofs.lemmas.List.{take_at, drop_at}
+use Rattle.std.proofs.lemmas.Bool.{eqb-true, eqb-false, and_parts}
 use Rattle.gw_text.specs.Lexical.{nul, quote_mark, left_brace, right_brace, is_safe, is_solid}
 use Rattle.gw_text.specs.Runs.{begins, NoMore}
 use Rattle.gw_text.specs.SpaceScan.{space_len}
 use Rattle.gw_text.specs.Forms.{IsWord}
 use Rattle.gw_text.specs.QuotedScan.{quoted_len}
-use Rattle.gw_text.specs.OctetsScan.{octets_ends}
 use Rattle.gw_text.specs.Group.{Pieces, nothing, space, quoted, word, mark, octets, group, text_of, after_word, after_mark, after, begins_octets, is_word_first, AreValid, IsGroup, open_text, GoesDeeper, AreOpen, IsTooDeep, HasNoGroup}
-use Rattle.gw_text.specs.GroupScan.{ScanStep, place, passed, octets_passed, brace_at, step_at, go_on, group_from, group_rest, group_found, balanced_at}
+use Rattle.gw_text.specs.GroupScan.{ScanStep, place, passed, brace_at, step_at, go_on, group_from, group_rest, group_found, balanced_at}
 use Rattle.gw_text.specs.declared.group.Before.{Before}
-use Rattle.gw_text.specs.declared.group.Before.TheVariants.{Equals, OctetsWord, Other}
+use Rattle.gw_text.specs.declared.group.Before.TheVariants.{Other}
 use Rattle.gw_text.specs.declared.group.Place.{Place}
 use Rattle.gw_text.specs.declared.fault.ScanFault.{ScanFault}
 use Rattle.gw_text.specs.declared.fault.ScanFault.TheVariants.{Unexpected, TooDeep}
-use Rattle.gw_text.proofs.RunLemmas.{and_true}
-use Rattle.gw_text.proofs.GroupSteps.{Taken, opens, holds_octets, closes, takes_quoted, takes_word, takes_mark, takes_space, step_taken, piece_cases, not_zero}
-use Rattle.gw_text.proofs.GroupPasses.{group_again, too_deep_again}
+use Rattle.gw_text.proofs.GroupSteps.{Taken, opens, holds_octets, closes, takes_quoted, takes_word, takes_mark, takes_space, step_taken, piece_cases}
+use Rattle.gw_text.proofs.GroupPasses.{group_again, too_deep_again, deep_fault, no_group_deep}
+use Rattle.gw_text.proofs.RunLemmas.{whole_tail}
+use Rattle.gw_text.proofs.Leaves.{eq_zero}
 
 -- ---- what is open is closed
 
@@ -30,17 +30,11 @@ Closes limit (suc k) before text rest = (p : Pieces) × (more : List ℕ) × (te
 
 first_safe : (w more : List ℕ) → IsWord w → NoMore is_safe (w ++ more) → ⊥
 first_safe [] more h ends = absurd (let some = h.some in omega arith)
-first_safe (b ∷ bs) more h ends = let clash : true ≡ false = sym (and_true (is_safe b) (list_all is_safe bs) h.run).0 ∙ ends in absurd cc
+first_safe (b ∷ bs) more h ends = let clash : true ≡ false = sym (and_parts (is_safe b) (list_all is_safe bs) h.run).0 ∙ ends in absurd cc
 
 -- where no safe byte comes next, no word does
 no_word_first : (p : Pieces) (behind : List ℕ) → NoMore is_safe (text_of p ++ behind) → (levels : ℕ) (before : Before) → AreValid levels before p → is_word_first p ≡ false
-no_word_first nothing behind ends levels before v = refl
-no_word_first (space span rest) behind ends levels before v = refl
-no_word_first (quoted span rest) behind ends levels before v = refl
-no_word_first (word w rest) behind ends levels before v = absurd (first_safe w (text_of rest ++ behind) v.0 (ap (begins is_safe) (sym (append_assoc w (text_of rest) behind)) ∙ ends))
-no_word_first (mark b rest) behind ends levels before v = refl
-no_word_first (octets body rest) behind ends levels before v = refl
-no_word_first (group inside rest) behind ends levels before v = refl
+no_word_first p behind ends levels before v = grind (arith, first_safe, append_assoc)
 
 one_more : (n : ℕ) → suc n + 1 ≡ suc (suc n)
 one_more n = omega arith
@@ -85,19 +79,11 @@ extend limit k before text left rest next (takes_space span split sep is) h =
     (space span i.0, i.1, split ∙ ap (λ (x : List ℕ). span ++ x) i.2 ∙ sym (append_assoc span (text_of i.0) (right_brace ∷ i.1)), (sep, i.3), i.4)
 
 ok_next : (text rest : List ℕ) (s : ScanStep) (more : Place → List ℕ → Result (List ℕ) ScanFault) → go_on more text s ≡ Ok rest → (next : Place) × (n : ℕ) × (s ≡ Ok (next, n)) × (cond (next.depth == 0) (Ok (drop n text)) (more next (drop n text)) ≡ Ok rest)
-ok_next text rest (Err f) more e = absurd cc
-ok_next text rest (Ok x) more e = (x.0, x.1, refl, e)
-
-list_ok : (x y : List ℕ) → let r : Result (List ℕ) ScanFault = Ok x in r ≡ Ok y → x ≡ y
-list_ok x y e = cc
-
-suc_some : (k : ℕ) (a b : Result (List ℕ) ScanFault) → cond (suc k == 0) a b ≡ b
-suc_some k a b = ap (λ (t : Bool). cond t a b) (not_zero (suc k) (omega arith))
+ok_next text rest s more e = grind arith
 
 closes_next : (fuel limit d : ℕ) (before : Before) (left rest : List ℕ) → ((k : ℕ) (b : Before) (text : List ℕ) → group_from fuel limit (place (suc k) b) text ≡ Ok rest → Closes limit (suc k) b text rest)
     → cond (d == 0) (Ok left) (group_from fuel limit (place d before) left) ≡ Ok rest → Closes limit d before left rest
-closes_next fuel limit zero before left rest h e = list_ok left rest e
-closes_next fuel limit (suc k) before left rest h e = h k before left (sym (suc_some k (Ok left) (group_from fuel limit (place (suc k) before) left)) ∙ e)
+closes_next fuel limit d before left rest h e = grind arith
 
 -- the scan ends only where all groups are closed
 closes_sound : (fuel limit : ℕ) (rest : List ℕ) (k : ℕ) (before : Before) (text : List ℕ) → group_from fuel limit (place (suc k) before) text ≡ Ok rest → Closes limit (suc k) before text rest
@@ -120,17 +106,8 @@ abbrev pub Deepens : (limit k : ℕ) → Before → List ℕ → Type 0
 Deepens limit zero before text = ⊥
 Deepens limit (suc k) before text = (p : Pieces) × AreValid (limit - suc k) before p × Ahead limit k (Deepens limit k Other) before p text
 
--- the same from the front of a piece
-goes_too : (before to : Before) (p q : Pieces) (groups : List Pieces) → after before q ≡ after to p → GoesDeeper to p groups → GoesDeeper before q groups
-goes_too before to p q [] e h = tt
-goes_too before to p q (g ∷ gs) e h = ap begins_octets e ∙ h
-
 ahead_more : (limit k : ℕ) (inner : List ℕ → Type 0) (before to : Before) (p q : Pieces) (text front left : List ℕ) → text ≡ front ++ left → text_of q ≡ front ++ text_of p → after before q ≡ after to p → Ahead limit k inner to p left → Ahead limit k inner before q text
-ahead_more limit k inner before to p q text front left split front-is after-is (inl h) =
-    inl (h.0, split ∙ ap (λ (x : List ℕ). front ++ x) h.1 ∙ sym (append_assoc front (text_of p) (right_brace ∷ h.0)) ∙ ap (λ (x : List ℕ). x ++ right_brace ∷ h.0) (sym front-is), h.2)
-ahead_more limit k inner before to p q text front left split front-is after-is (inr h) =
-    let back : List ℕ = open_text h.0 ++ left_brace ∷ h.1 in
-    inr (h.0, h.1, split ∙ ap (λ (x : List ℕ). front ++ x) h.2 ∙ sym (append_assoc front (text_of p) back) ∙ ap (λ (x : List ℕ). x ++ back) (sym front-is), h.3, goes_too before to p q h.0 after-is h.4, h.5)
+ahead_more limit k inner before to p q text front left split front-is after-is h = grind (arith, append_assoc)
 
 -- a group is open, and what is behind its brace leads there
 ahead_opens : (limit k : ℕ) (before : Before) (text left : List ℕ) → text ≡ left_brace ∷ left → suc k < limit → begins_octets before ≡ false
@@ -150,8 +127,7 @@ ahead_opens limit k before text left split room kind inside v (inr h) =
     (nothing, tt, inr (inside ∷ h.0, h.1, whole, omega (arith, h.3), kind, (v', h.4, o')))
 
 ahead_word : (limit k : ℕ) (inner : List ℕ → Type 0) (before : Before) (p : Pieces) (left : List ℕ) → NoMore is_safe left → (levels : ℕ) → AreValid levels before p → Ahead limit k inner before p left → is_word_first p ≡ false
-ahead_word limit k inner before p left ends levels v (inl h) = no_word_first p (right_brace ∷ h.0) (ap (begins is_safe) (sym h.1) ∙ ends) levels before v
-ahead_word limit k inner before p left ends levels v (inr h) = no_word_first p (open_text h.0 ++ left_brace ∷ h.1) (ap (begins is_safe) (sym h.2) ∙ ends) levels before v
+ahead_word limit k inner before p left ends levels v h = grind (arith, no_word_first)
 
 deepen : (limit k : ℕ) (before : Before) (text left : List ℕ) (next : Place) → Taken limit (suc k) before text left next → Deepens limit next.depth next.before left → Deepens limit (suc k) before text
 deepen limit k before text left next (opens split room kind is) h =
@@ -193,26 +169,14 @@ step_err f g e = cc
 not_err : (P : Type 0) (x : Place × ℕ) (g : ScanFault) → let r : ScanStep = Ok x in r ≡ Err g → P
 not_err P x g e = absurd cc
 
-octets_fault : (depth : ℕ) (o : Option (ℕ × ℕ)) (f : ScanFault) → octets_passed depth o ≡ Err f → f ≡ Unexpected
-octets_fault depth None f e = step_err Unexpected f e
-octets_fault depth (Some ends) f e = not_err _ (place depth Other, ends.0 + 2) f e
-
-brace_fault : (depth : ℕ) (before : Before) (inner : List ℕ) (f : ScanFault) → brace_at depth before inner ≡ Err f → f ≡ Unexpected
-brace_fault depth OctetsWord inner f e = octets_fault depth (octets_ends inner) f e
-brace_fault depth Equals inner f e = not_err _ (place (depth + 1) Other, 1) f e
-brace_fault depth Other inner f e = not_err _ (place (depth + 1) Other, 1) f e
-
 open_fault : (limit depth : ℕ) (before : Before) (b : ℕ) (inner : List ℕ) (f : ScanFault) → b == left_brace ≡ true → (t : Bool) → nat_le limit depth ≡ t → cond t (Err TooDeep) (brace_at depth before inner) ≡ Err f → StepFault limit depth f (b ∷ inner)
-open_fault limit depth before b inner f is true full e = inr (step_err TooDeep f e, inner, ap (λ (c : ℕ). c ∷ inner) (eqb-true b left_brace is), leb-true limit depth full)
-open_fault limit depth before b inner f is false room e = inl (brace_fault depth before inner f e)
+open_fault limit depth before b inner f is t full e = grind arith
 
 passed_fault : (at : Place) (o : Option ℕ) (f : ScanFault) → passed at o ≡ Err f → f ≡ Unexpected
-passed_fault at None f e = step_err Unexpected f e
-passed_fault at (Some len) f e = not_err _ (at, len) f e
+passed_fault at o f e = grind arith
 
 guard_fault : (t : Bool) (x : Place × ℕ) (f : ScanFault) → let r : ScanStep = Ok x in cond t (Err Unexpected) r ≡ Err f → f ≡ Unexpected
-guard_fault true x f e = step_err Unexpected f e
-guard_fault false x f e = not_err _ x f e
+guard_fault t x f e = grind arith
 
 step_fault : (limit depth : ℕ) (before : Before) (text : List ℕ) (f : ScanFault) → step_at limit (place depth before) text ≡ Err f → StepFault limit depth f text
 unfolding step_at
@@ -232,22 +196,14 @@ GroupFault limit k before f text = (f ≡ Unexpected) ⊎ ((f ≡ TooDeep) × De
 
 err_next : (text : List ℕ) (f : ScanFault) (s : ScanStep) (more : Place → List ℕ → Result (List ℕ) ScanFault) → go_on more text s ≡ Err f
     → (s ≡ Err f) ⊎ ((next : Place) × (n : ℕ) × (s ≡ Ok (next, n)) × (cond (next.depth == 0) (Ok (drop n text)) (more next (drop n text)) ≡ Err f))
-err_next text f (Err g) more e = inl cc
-err_next text f (Ok x) more e = inr (x.0, x.1, refl, e)
+err_next text f s more e = grind arith
 
 deepens_next : (fuel limit d : ℕ) (before : Before) (left : List ℕ) (f : ScanFault) → ((k : ℕ) (b : Before) (text : List ℕ) → suc k ≤ limit → group_from fuel limit (place (suc k) b) text ≡ Err f → GroupFault limit k b f text)
     → d ≤ limit → cond (d == 0) (Ok left) (group_from fuel limit (place d before) left) ≡ Err f → (f ≡ Unexpected) ⊎ ((f ≡ TooDeep) × Deepens limit d before left)
-deepens_next fuel limit zero before left f h le e = absurd cc
-deepens_next fuel limit (suc k) before left f h le e = h k before left le (sym (suc_some k (Ok left) (group_from fuel limit (place (suc k) before) left)) ∙ e)
+deepens_next fuel limit d before left f h le e = grind arith
 
 taken_depth : (limit k : ℕ) (before : Before) (text left : List ℕ) (next : Place) → Taken limit (suc k) before text left next → suc k ≤ limit → next.depth ≤ limit
-taken_depth limit k before text left next (opens split room kind is) le = subst (λ (n : Place). n.depth ≤ limit) (sym is) (omega (arith, room))
-taken_depth limit k before text left next (holds_octets body split room kind is_octets is) le = subst (λ (n : Place). n.depth ≤ limit) (sym is) le
-taken_depth limit k before text left next (closes split is) le = subst (λ (n : Place). n.depth ≤ limit) (sym is) (omega (arith, le))
-taken_depth limit k before text left next (takes_quoted span split is_quoted is) le = subst (λ (n : Place). n.depth ≤ limit) (sym is) le
-taken_depth limit k before text left next (takes_word w split is_word ends is) le = subst (λ (n : Place). n.depth ≤ limit) (sym is) le
-taken_depth limit k before text left next (takes_mark b split is_a_mark is) le = subst (λ (n : Place). n.depth ≤ limit) (sym is) le
-taken_depth limit k before text left next (takes_space span split sep is) le = subst (λ (n : Place). n.depth ≤ limit) (sym is) le
+taken_depth limit k before text left next h le = grind arith
 
 full_here : (limit k : ℕ) (before : Before) (text : List ℕ) (f : ScanFault) → suc k ≤ limit → StepFault limit (suc k) f text → GroupFault limit k before f text
 full_here limit k before text f le (inl u) = inl u
@@ -275,11 +231,7 @@ pub record IsTakenGroup (depth : ℕ) (text span rest : List ℕ) : Type 0 where
   pub group : IsGroup depth span
 
 found_parts : (text span rest : List ℕ) (r : Result (List ℕ) ScanFault) → group_found text r ≡ Ok (span, rest) → (r ≡ Ok rest) × (take (length text - length rest) text ≡ span)
-found_parts text span rest (Err f) e = absurd cc
-found_parts text span rest (Ok left) e =
-    let s : ◌≡◌ {A = List ℕ × List ℕ} (take (length text - length left) text, left) (span, rest) = cc in
-    let same : left ≡ rest = ap (λ (p : List ℕ × List ℕ). p.1) s in
-    (ap (λ (x : List ℕ). Ok x) same, ap (λ (x : List ℕ). take (length text - length x) text) (sym same) ∙ ap (λ (p : List ℕ × List ℕ). p.0) s)
+found_parts text span rest r e = grind arith
 
 group_cases : (depth b : ℕ) (bs span rest : List ℕ) (t z : Bool) → b == left_brace ≡ t → depth == 0 ≡ z → cond t (cond z (Err TooDeep) (group_found (b ∷ bs) (group_rest depth (place 1 Other) bs))) (Err Unexpected) ≡ Ok (span, rest) → IsTakenGroup depth (b ∷ bs) span rest
 group_cases depth b bs span rest false z is none e = absurd cc
@@ -304,18 +256,11 @@ unfolding balanced_at
 group_took depth [] span rest e = absurd cc
 group_took depth (b ∷ bs) span rest e = group_cases depth b bs span rest (b == left_brace) (depth == 0) refl refl e
 
--- no group is at the front where the scan answers a fault
-no_group : (depth : ℕ) (text : List ℕ) (f : ScanFault) → balanced_at depth text ≡ Err f → (before behind : List ℕ) → text ≡ before ++ behind → ¬ IsGroup depth before
-no_group depth text f e before behind split h =
-    let clash : ◌≡◌ {A = Result (List ℕ × List ℕ) ScanFault} (Err f) (Ok (before, behind)) = sym e ∙ ap (balanced_at depth) split ∙ group_again depth before behind h in
-    absurd cc
-
 abbrev TopFault : ℕ → ScanFault → List ℕ → Type 0
 TopFault depth f text = (f ≡ Unexpected) ⊎ ((f ≡ TooDeep) × IsTooDeep depth text)
 
 found_err : (text : List ℕ) (f : ScanFault) (r : Result (List ℕ) ScanFault) → group_found text r ≡ Err f → r ≡ Err f
-found_err text f (Err g) e = cc
-found_err text f (Ok left) e = absurd cc
+found_err text f r e = grind arith
 
 top_err : (f g : ScanFault) → let r : Result (List ℕ × List ℕ) ScanFault = Err f in r ≡ Err g → g ≡ f
 top_err f g e = cc
@@ -343,19 +288,16 @@ top_cases depth b bs f true false is none e =
 
 top_fault : (depth : ℕ) (text : List ℕ) (f : ScanFault) → balanced_at depth text ≡ Err f → TopFault depth f text
 unfolding balanced_at
-top_fault depth [] f e = inl (top_err Unexpected f e)
-top_fault depth (b ∷ bs) f e = top_cases depth b bs f (b == left_brace) (depth == 0) refl refl e
+top_fault depth text f e = grind (arith, top_err, top_cases)
 
 fault_cases : (depth : ℕ) (text : List ℕ) (f : ScanFault) → balanced_at depth text ≡ Err f → TopFault depth f text → HasNoGroup depth f text
-fault_cases depth text f e (inl u) =
-    let e' : balanced_at depth text ≡ Err Unexpected = e ∙ ap (λ (g : ScanFault). Err g) u in
-    subst (λ (g : ScanFault). HasNoGroup depth g text) (sym u)
-    (λ deep. let clash : ◌≡◌ {A = Result (List ℕ × List ℕ) ScanFault} (Err Unexpected) (Err TooDeep) = sym e' ∙ too_deep_again depth text deep in absurd cc, no_group depth text f e)
-fault_cases depth text f e (inr d) = subst (λ (g : ScanFault). HasNoGroup depth g text) (sym d.0) (d.1, no_group depth text f e)
+fault_cases depth text f e h = grind (arith, too_deep_again, group_again)
 
 -- the fault is the one that the definition has
 pub group_fault : (depth : ℕ) (text : List ℕ) (f : ScanFault) → balanced_at depth text ≡ Err f → HasNoGroup depth f text
 group_fault depth text f e = fault_cases depth text f e (top_fault depth text f e)
+
+pub ruleset group_scans = (group_fault, deep_fault, no_group_deep)
 
 -- what is left is what is behind the group
 pub group_len_is : (depth : ℕ) (text rest : List ℕ) → balanced_at depth text ≡ Ok (take (length text - length rest) text, rest)
@@ -371,9 +313,6 @@ group_len_is depth text rest e =
 pub group_span : (depth : ℕ) (text span rest : List ℕ) → balanced_at depth text ≡ Ok (span, rest) → (text ≡ span ++ rest) × IsGroup depth span
 group_span depth text span rest e = let t = group_took depth text span rest e in (t.split, t.group)
 
-whole_tail : (b : ℕ) (bs : List ℕ) → take (length (b ∷ bs) - 1) (drop 1 (b ∷ bs)) ≡ bs
-whole_tail b bs = take_all (length (b ∷ bs) - 1) bs (omega arith)
-
 -- the same from what is behind the first brace
 pub group_len_at : (depth : ℕ) (text rest : List ℕ) → 0 < length text → get_or text 0 0 ≡ left_brace → 0 < depth → group_rest depth (place 1 Other) (take (length text - 1) (drop 1 text)) ≡ Ok rest
     → (balanced_at depth text ≡ Ok (take (length text - length rest) text, drop (length text - length rest) text)) × (length text - length rest ≤ length text)
@@ -381,7 +320,7 @@ unfolding balanced_at
 group_len_at depth [] rest some first deep e = absurd (omega arith)
 group_len_at depth (b ∷ bs) rest some first deep e =
     let is : b == left_brace ≡ true = ap (λ (c : ℕ). c == left_brace) first in
-    let not-none : depth == 0 ≡ false = not_zero depth deep in
+    let not-none : depth == 0 ≡ false = eq_zero depth deep in
     let e' : group_rest depth (place 1 Other) bs ≡ Ok rest = ap (group_rest depth (place 1 Other)) (sym (whole_tail b bs)) ∙ e in
     let one : balanced_at depth (b ∷ bs) ≡ group_found (b ∷ bs) (group_rest depth (place 1 Other) bs) = rw (is, not-none) refl in
     group_len_is depth (b ∷ bs) rest (one ∙ ap (group_found (b ∷ bs)) e')

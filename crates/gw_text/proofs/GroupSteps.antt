@@ -23,8 +23,8 @@ use Rattle.gw_text.proofs.RunLemmas.{run_is, run_len-le}
 use Rattle.gw_text.proofs.SpaceLemmas.{space_is, space_len-le}
 use Rattle.gw_text.proofs.SpacePieces.{space_pieces}
 use Rattle.gw_text.proofs.OctetsLemmas.{octets_sound, are_are}
-use Rattle.gw_text.proofs.OctetsScans.{quoted_sound}
-use Rattle.gw_text.proofs.TrimLemmas.{begins_drop}
+use Rattle.gw_text.proofs.OctetsScans.{quoted_sound, quoted_some}
+use Rattle.gw_text.proofs.SpaceParts.{run_ends}
 
 -- how a step passes the front of a text, of which left is left
 pub data Taken (limit depth : ℕ) (before : Before) (text left : List ℕ) (next : Place) : Type 0 where
@@ -40,24 +40,16 @@ pub data Taken (limit depth : ℕ) (before : Before) (text left : List ℕ) (nex
 
 pub piece_cases : (P : Type 0) (a b c d e : Bool) (x1 x2 x3 x4 x5 x6 y : ScanStep) → cond a x1 (cond b x2 (cond c x3 (cond d x4 (cond e x5 x6)))) ≡ y → (a ≡ true → x1 ≡ y → P) → (b ≡ true → x2 ≡ y → P) → (c ≡ true → x3 ≡ y → P) → (d ≡ true → x4 ≡ y → P)
     → (a ≡ false → b ≡ false → c ≡ false → d ≡ false → e ≡ true → x5 ≡ y → P) → (x6 ≡ y → P) → P
-piece_cases P true b c d e x1 x2 x3 x4 x5 x6 y is f1 f2 f3 f4 f5 f6 = f1 refl is
-piece_cases P false true c d e x1 x2 x3 x4 x5 x6 y is f1 f2 f3 f4 f5 f6 = f2 refl is
-piece_cases P false false true d e x1 x2 x3 x4 x5 x6 y is f1 f2 f3 f4 f5 f6 = f3 refl is
-piece_cases P false false false true e x1 x2 x3 x4 x5 x6 y is f1 f2 f3 f4 f5 f6 = f4 refl is
-piece_cases P false false false false true x1 x2 x3 x4 x5 x6 y is f1 f2 f3 f4 f5 f6 = f5 refl refl refl refl refl is
-piece_cases P false false false false false x1 x2 x3 x4 x5 x6 y is f1 f2 f3 f4 f5 f6 = f6 is
+piece_cases P a b c d e x1 x2 x3 x4 x5 x6 y is f1 f2 f3 f4 f5 f6 = grind arith
 
 ok_parts : (P : Type 0) (p q : Place) (m n : ℕ) → let x : ScanStep = Ok (p, m) in x ≡ Ok (q, n) → (q ≡ p → m ≡ n → P) → P
-ok_parts P p q m n e f =
-    let s : ◌≡◌ {A = Place × ℕ} (p, m) (q, n) = cc in
-    f (sym (ap (λ (x : Place × ℕ). x.0) s)) (ap (λ (x : Place × ℕ). x.1) s)
+ok_parts P p q m n e f = grind arith
 
 not_ok : (P : Type 0) (f : ScanFault) (x : Place × ℕ) → let r : ScanStep = Err f in r ≡ Ok x → P
 not_ok P f x e = absurd cc
 
 guarded : (P : Type 0) (t : Bool) (f : ScanFault) (x : ScanStep) (y : Place × ℕ) → cond t (Err f) x ≡ Ok y → (t ≡ false → x ≡ Ok y → P) → P
-guarded P true f x y e g = absurd cc
-guarded P false f x y e g = g refl e
+guarded P t f x y e g = grind arith
 
 -- ---- each of them
 
@@ -113,7 +105,7 @@ word_taken limit at b bs next n safe e =
     let some : 0 < len = rw safe (omega arith) in
     ok_parts (Taken limit at.depth at.before text (drop n text) next) (place at.depth (after_word at.before (take len text))) next len n e
     (λ next-is n-is. subst (λ (m : ℕ). Taken limit at.depth at.before text (drop m text) next) n-is
-    (takes_word (take len text) (sym (take-append-drop len text)) (record { run = run_is is_safe text; some = omega (arith, some, length-take len text, run_len-le is_safe text) }) (begins_drop is_safe text) next-is))
+    (takes_word (take len text) (sym (take-append-drop len text)) (record { run = run_is is_safe text; some = omega (arith, some, length-take len text, run_len-le is_safe text) }) (run_ends is_safe text) next-is))
 
 mark_is : (s o z q l r : Bool) → s ≡ false → o ≡ true → z ≡ false → q ≡ false → l ≡ false → r ≡ false → not s && o && not z && not q && not l && not r ≡ true
 mark_is s o z q l r a b c d e f = rw (a, b, c, d, e, f) refl
@@ -150,17 +142,8 @@ step_taken limit at (b ∷ bs) next n e =
 
 -- ---- each passes a byte at least
 
-quoted_some : (span : List ℕ) → IsQuoted span → 0 < length span
-quoted_some span h = omega (arith, ap length h.split, length-append h.front h.back, ap length h.first)
-
 taken_shrinks : (limit depth : ℕ) (before : Before) (text left : List ℕ) (next : Place) → Taken limit depth before text left next → length left < length text
-taken_shrinks limit depth before text left next (opens split room kind is) = omega (arith, ap length split)
-taken_shrinks limit depth before text left next (holds_octets body split room kind octets is) = omega (arith, ap length split, length-append body (right_brace ∷ left))
-taken_shrinks limit depth before text left next (closes split is) = omega (arith, ap length split)
-taken_shrinks limit depth before text left next (takes_quoted span split quoted is) = omega (arith, ap length split, length-append span left, quoted_some span quoted)
-taken_shrinks limit depth before text left next (takes_word w split word ends is) = let some = word.some in omega (arith, ap length split, length-append w left, some)
-taken_shrinks limit depth before text left next (takes_mark b split mark is) = omega (arith, ap length split)
-taken_shrinks limit depth before text left next (takes_space span split sep is) = let some = sep.some in omega (arith, ap length split, length-append span left, some)
+taken_shrinks limit depth before text left next h = grind (arith, length-append, quoted_some)
 
 pub step_shrinks : (limit : ℕ) (at : Place) (text : List ℕ) (next : Place) (n : ℕ) → step_at limit at text ≡ Ok (next, n) → length (drop n text) < length text
 step_shrinks limit at text next n e = taken_shrinks limit at.depth at.before text (drop n text) next (step_taken limit at text next n e)
@@ -168,8 +151,7 @@ step_shrinks limit at text next n e = taken_shrinks limit at.depth at.before tex
 -- ---- more fuel changes nothing
 
 continues : (limit : ℕ) (f g : Place → List ℕ → Result (List ℕ) ScanFault) (text : List ℕ) (s : ScanStep) → ((next : Place) (n : ℕ) → s ≡ Ok (next, n) → f next (drop n text) ≡ g next (drop n text)) → go_on f text s ≡ go_on g text s
-continues limit f g text (Err e) h = refl
-continues limit f g text (Ok x) h = ap (cond (x.0.depth == 0) (Ok (drop x.1 text))) (h x.0 x.1 refl)
+continues limit f g text s h = grind arith
 
 group_enough : (limit n m : ℕ) (at : Place) (text : List ℕ) → length text < n → length text < m → group_from n limit at text ≡ group_from m limit at text
 unfolding group_from
@@ -189,16 +171,11 @@ rest_goes_on limit at text next n e some =
 -- the last brace is passed
 pub rest_ends : (limit : ℕ) (at : Place) (text : List ℕ) (next : Place) (n : ℕ) → step_at limit at text ≡ Ok (next, n) → next.depth == 0 ≡ true → group_rest limit at text ≡ Ok (drop n text)
 unfolding group_from
-rest_ends limit at text next n e none =
-    ap (go_on (group_from (length text) limit) text) e ∙ ap (λ (t : Bool). cond t (Ok (drop n text)) (group_from (length text) limit next (drop n text))) none
+rest_ends limit at text next n e none = grind arith
 
 -- nothing more is passed
 pub rest_fails : (limit : ℕ) (at : Place) (text : List ℕ) (f : ScanFault) → step_at limit at text ≡ Err f → group_rest limit at text ≡ Err f
 unfolding group_from
 rest_fails limit at text f e = ap (go_on (group_from (length text) limit) text) e
 
-pub is_zero : (n : ℕ) → n ≡ 0 → n == 0 ≡ true
-is_zero n e = ap (λ (m : ℕ). m == 0) e
-
-pub not_zero : (n : ℕ) → 0 < n → n == 0 ≡ false
-not_zero n h = grind arith
+pub ruleset rest_steps = (rest_goes_on, rest_fails, step_shrinks)

@@ -1,5 +1,5 @@
 -- Readers of items with white space between them, to the end of the text.
-use Rattle.std.proofs.Common.{◌≡◌, ℕ, zero, suc, ◌≤◌, Bool, true, List, [], ◌∷◌, ◌++◌, length, Option, Some, None, refl, ap, sym, subst, ◌∙◌, append_assoc, length-append, arith}
+use Rattle.std.proofs.Common.{◌≡◌, ℕ, zero, suc, ◌≤◌, Bool, true, List, [], ◌∷◌, ◌++◌, length, Option, Some, refl, ap, sym, subst, ◌∙◌, append_assoc, length-append, arith}
 use Rattle.std.proofs.lemmas.List.{append-nil}
 use Rattle.gw_base.specs.Lang.{◌▹◌}
 use Rattle.gw_text.specs.Lexical.{is_solid}
@@ -12,6 +12,7 @@ use Rattle.gw_text.proofs.Skips.{skip_space, skip_is, skip_stays}
 use Rattle.gw_text.proofs.Signs.{some_is}
 use Rattle.gw_text.proofs.Links.{both_begins}
 use Rattle.gw_text.proofs.ReadsUp.{ReadsUp, Same, UpTo, BeginsWith, bind_some, begins_append, begins_some, skip_solid}
+use Rattle.gw_text.proofs.Lists.{first_some}
 
 -- ---- items
 
@@ -36,19 +37,11 @@ spaced_len Form h (v ∷ (u ∷ us)) front s =
     omega (arith, begins_some is_solid s.front (h v s.front s.first), spaced_len Form h (u ∷ us) c.back c.second, ap length s.split, length-append s.front s.back, ap length c.split, length-append c.front c.back)
 
 cons_spaced : {V : Type 0} (Form : V → List ℕ → Type 0) (v : V) (us : List V) (f c g : List ℕ) → Form v f → IsSpace c → Spaced Form us g → Spaced Form (v ∷ us) (f ++ (c ++ g))
-cons_spaced Form v [] f c g one between others = absurd others
-cons_spaced Form v (u ∷ us) f c g one between others = record { front = f; back = c ++ g; split = refl; first = one; second = record { front = c; back = g; split = refl; first = between; second = others } }
+cons_spaced Form v us f c g one between others = grind arith
 
 -- a text of a form, and white space up to its end
 abbrev pub ToEnd : (List ℕ → Type 0) → List ℕ → Type 0
 ToEnd P = P ▹ IsSpace
-
-first_item : {V : Type 0} (v : V) (o : Option (List V × List ℕ)) (vs : List V) (rest : List ℕ) → with_first v o ≡ Some (vs, rest) → (us : List V) × (o ≡ Some (us, rest)) × (v ∷ us ≡ vs)
-first_item v None vs rest e = absurd cc
-first_item {V} v (Some x) vs rest e =
-    let made : List V × List ℕ = (v ∷ x.0, x.1) in
-    let same = some_is made (vs, rest) e in
-    (x.0, ap (λ (p : List V × List ℕ). Some (x.0, p.1)) same, ap (λ (p : List V × List ℕ). p.0) same)
 
 more_sound : {V : Type 0} (Form : V → List ℕ → Type 0) (others : Reader (List V)) → ((text : List ℕ) (vs : List V) (rest : List ℕ) → others text ≡ Some (vs, rest) → (rest ≡ []) × ToEnd (Spaced Form vs) text)
     → (v : V) (mid : List ℕ) (vs : List V) (rest : List ℕ) → if_more others v mid ≡ Some (vs, rest)
@@ -59,7 +52,7 @@ more_sound {V} Form others sound v [] vs rest e text f between split one space =
     let at-end : ToEnd (Spaced Form (v ∷ [])) text = record { front = f; back = between; split = split ∙ ap (λ (x : List ℕ). f ++ x) (append-nil between); first = one; second = space } in
     (sym (ap (λ (p : List V × List ℕ). p.1) same), subst (λ (us : List V). ToEnd (Spaced Form us) text) (ap (λ (p : List V × List ℕ). p.0) same) at-end)
 more_sound {V} Form others sound v (b ∷ bs) vs rest e text f between split one space =
-    let w = first_item v (others (b ∷ bs)) vs rest e in
+    let w = first_some v (others (b ∷ bs)) vs rest e in
     let t = sound (b ∷ bs) w.0 rest w.1 in
     let g = t.1 in
     let whole : text ≡ (f ++ (between ++ g.front)) ++ g.back =
@@ -78,14 +71,10 @@ items_sound {V} r Form h (suc fuel) text vs rest e =
     (s.1 ∙ ap (λ (x : List ℕ). s.0 ++ x) (k.split ∙ ap (λ (x : List ℕ). k.front ++ x) k.second)) s.2 k.first
 
 more_is : {V : Type 0} (others : Reader (List V)) (v : V) (rest : List ℕ) → begins is_solid rest ≡ true → if_more others v rest ≡ with_first v (others rest)
-more_is others v [] some = absurd cc
-more_is others v (b ∷ bs) some = refl
+more_is others v rest some = grind arith
 
 next_item : {V : Type 0} (Form : V → List ℕ → Type 0) (Next : List ℕ → Type 0) → ItemsUp Form Next → (u : V) (us : List V) (between front rest : List ℕ) → IsSpace between → Spaced Form (u ∷ us) front → Next (between ++ (front ++ rest))
-next_item Form Next l u [] between front rest space s = l.next u between front rest space s
-next_item Form Next l u (w ∷ ws) between front rest space s =
-    let e : front ++ rest ≡ s.front ++ (s.back ++ rest) = ap (λ (x : List ℕ). x ++ rest) s.split ∙ append_assoc s.front s.back rest in
-    subst (λ (x : List ℕ). Next (between ++ x)) (sym e) (l.next u between s.front (s.back ++ rest) space s.first)
+next_item Form Next l u us between front rest space s = grind (arith, append_assoc)
 
 items_complete : {V : Type 0} (r : Reader V) (Form : V → List ℕ → Type 0) (Next : List ℕ → Type 0) → ReadsUp r Form Next Same UpTo → ItemsUp Form Next
     → (fuel : ℕ) (vs : List V) (front rest : List ℕ) → length vs ≤ fuel → Spaced Form vs front → skip rest ≡ [] → items_from r fuel (front ++ rest) ≡ Some (vs, [])

@@ -1,6 +1,5 @@
 -- Readers of words, of numbers, of bytes before white space, and of white space.
 use Rattle.std.proofs.Common.{◌≡◌, ℕ, ◌+◌, ◌<◌, Bool, false, ◌==◌, List, ◌++◌, length, take, drop, Option, Some, Result, Ok, Err, refl, ap, sym, ◌∙◌, append_assoc, arith}
-use Rattle.std.specs.Prelude.{nat_lt}
 use Rattle.std.proofs.lemmas.List.{take_at, drop_at}
 use Rattle.std.proofs.lemmas.Bool.{le-ltb}
 use Rattle.gw_base.specs.Bytes.{is_digit}
@@ -9,13 +8,12 @@ use Rattle.gw_text.specs.Lexical.{is_safe, is_solid}
 use Rattle.gw_text.specs.Space.{IsSep}
 use Rattle.gw_text.specs.SpaceScan.{space_len, skip}
 use Rattle.gw_text.specs.Runs.{run_len, NoMore}
-use Rattle.gw_text.specs.Longest.{IsLongest}
 use Rattle.gw_text.specs.Scans.{some_at, sep_at, word_at, solid_at, number_within, uint32_max, uint32_digits}
-use Rattle.gw_text.specs.Forms.{IsSomeRun, IsWord, IsNumber, IsUint32, IsWordFor}
+use Rattle.gw_text.specs.Forms.{IsSomeRun, IsNumber, IsUint32, IsWordFor}
 use Rattle.gw_text.specs.Reader.{Reader, ◌>>=◌, found, word_as, solid_as, number_at, number_up_to}
 use Rattle.gw_text.specs.declared.fault.ScanFault.{ScanFault}
 use Rattle.gw_text.proofs.RunLemmas.{run_again}
-use Rattle.gw_text.proofs.Scanned.{word_found, solid_found, number_takes, sep_found}
+use Rattle.gw_text.proofs.Scanned.{run_found, number_takes, sep_found}
 use Rattle.gw_text.proofs.Skips.{skip_space, space_len-append}
 use Rattle.gw_text.proofs.Signs.{some_is}
 use Rattle.gw_text.proofs.ReadsUp.{ReadsUp, Same, Skipped, Any, bind_some, both_split}
@@ -30,35 +28,24 @@ eq_zero n h = grind arith
 -- ---- runs of some bytes
 
 pub run_read : (p : ℕ → Bool) (front rest : List ℕ) → IsSomeRun p front → NoMore p rest → some_at (run_len p (front ++ rest)) (front ++ rest) ≡ Ok (front, rest)
-run_read p front rest h ends =
-    let n : run_len p (front ++ rest) ≡ length front = run_again p front rest h.run ends in
-    rw (n, eq_zero (length front) h.some, take_at front rest (length front) refl, drop_at front rest (length front) refl) refl
+run_read p front rest h ends = grind (arith, eq_zero, drop_at, run_again, take_at)
 
-pub word_again : (front rest : List ℕ) → IsWord front → NoMore is_safe rest → word_at (front ++ rest) ≡ Ok (front, rest)
-unfolding word_at
-word_again front rest h ends = run_read is_safe front rest h ends
-
-pub solid_again : (front rest : List ℕ) → IsSomeRun is_solid front → NoMore is_solid rest → solid_at (front ++ rest) ≡ Ok (front, rest)
-unfolding solid_at
-solid_again front rest h ends = run_read is_solid front rest h ends
-
--- a span that stands for a value, where the spans of a scan are runs of a class
-pub span_reads : {V : Type 0} (p : ℕ → Bool) (scan : List ℕ → Result (List ℕ × List ℕ) ScanFault) (of : List ℕ → Option V)
-    → ((text span rest : List ℕ) → scan text ≡ Ok (span, rest) → IsLongest (IsSomeRun p) text span rest)
-    → ((front rest : List ℕ) → IsSomeRun p front → NoMore p rest → scan (front ++ rest) ≡ Ok (front, rest))
-    → ReadsUp (λ text. found (scan text) >>= λ w. of w.0 >>= λ v. Some (v, w.1)) (λ v text. IsSomeRun p text × (of text ≡ Some v)) (NoMore p) Same Same
-span_reads {V} p scan of takes again = record {
+-- a run that stands for a value
+pub run_reads : {V : Type 0} (p : ℕ → Bool) (of : List ℕ → Option V)
+    → ReadsUp (λ text. found (some_at (run_len p text) text) >>= λ w. of w.0 >>= λ v. Some (v, w.1)) (λ v text. IsSomeRun p text × (of text ≡ Some v)) (NoMore p) Same Same
+run_reads {V} p of = record {
   sound = λ text v rest e.
-      let a = bind_some (found (scan text)) (λ w. of w.0 >>= λ v. Some (v, w.1)) (v, rest) e in
+      let scan = some_at (run_len p text) text in
+      let a = bind_some (found scan) (λ w. of w.0 >>= λ v. Some (v, w.1)) (v, rest) e in
       let b = bind_some (of a.0.0) (λ v. Some (v, a.0.1)) (v, rest) a.2 in
-      let w = takes text a.0.0 a.0.1 (found_ok (scan text) a.0 a.1) in
+      let w = run_found p text a.0.0 a.0.1 (found_ok scan a.0 a.1) in
       let made : V × List ℕ = (b.0, a.0.1) in
       let same = some_is made (v, rest) b.2 in
       (a.0.0, w.split ∙ ap (λ (p : V × List ℕ). a.0.0 ++ p.1) same, (w.inside, b.1 ∙ ap (λ (p : V × List ℕ). Some p.0) same));
   complete = λ v front rest start q n e. (
     rest,
-    ap (λ (t : List ℕ). found (scan t) >>= λ w. of w.0 >>= λ v. Some (v, w.1)) e
-        ∙ ap (λ (r : Result (List ℕ × List ℕ) ScanFault). found r >>= λ w. of w.0 >>= λ v. Some (v, w.1)) (again front rest q.0 n)
+    ap (λ (t : List ℕ). found (some_at (run_len p t) t) >>= λ w. of w.0 >>= λ v. Some (v, w.1)) e
+        ∙ ap (λ (r : Result (List ℕ × List ℕ) ScanFault). found r >>= λ w. of w.0 >>= λ v. Some (v, w.1)) (run_read p front rest q.0 n)
         ∙ ap (λ (o : Option V). o >>= λ v. Some (v, rest)) q.1,
     refl,
   );
@@ -66,8 +53,9 @@ span_reads {V} p scan of takes again = record {
 
 -- a word that stands for a value
 pub up_word : {V : Type 0} (of : List ℕ → Option V) → ReadsUp (word_as of) (IsWordFor of) (NoMore is_safe) Same Same
+unfolding word_at
 up_word of =
-    let h = span_reads is_safe word_at of word_found word_again in
+    let h = run_reads is_safe of in
     record {
       sound = λ text v rest e. let s = h.sound text v rest e in (s.0, s.1, record { word = s.2.0; stands = s.2.1 });
       complete = λ v front rest start q n e. h.complete v front rest start (q.word, q.stands) n e;
@@ -75,26 +63,18 @@ up_word of =
 
 -- bytes before white space that stand for a value
 pub up_solid : {V : Type 0} (of : List ℕ → Option V) → ReadsUp (solid_as of) (λ v text. IsSomeRun is_solid text × (of text ≡ Some v)) (NoMore is_solid) Same Same
-up_solid of = span_reads is_solid solid_at of solid_found solid_again
+unfolding solid_at
+up_solid of = run_reads is_solid of
 
 -- ---- numbers
 
 number_again : (most max n : ℕ) (front rest : List ℕ) → IsNumber most max n front → NoMore is_digit rest → number_within most max (front ++ rest) ≡ Ok (n, rest)
 unfolding number_within
-number_again most max n front rest h ends =
-    let len : run_len is_digit (front ++ rest) ≡ length front = run_again is_digit front rest h.digits ends in
-    let short : nat_lt most (length front) ≡ false = le-ltb _ _ h.short in
-    let small : nat_lt max n ≡ false = le-ltb _ _ h.small in
-    rw (len, eq_zero (length front) h.some, take_at front rest (length front) refl, drop_at front rest (length front) refl, h.value, short, small) refl
+number_again most max n front rest h ends = grind (arith, eq_zero, drop_at, le-ltb, run_again, take_at)
 
 -- a number of at most so many digits, and at most max
 pub up_number_up_to : (most max : ℕ) → ReadsUp (number_up_to most max) (IsNumber most max) (NoMore is_digit) Same Same
-up_number_up_to most max = record {
-  sound = λ text n rest e.
-      let h = number_takes most max text n rest (found_ok (number_within most max text) (n, rest) e) in
-      (_, h.digits.split, h.number);
-  complete = λ n front rest start q ends e. (rest, ap (number_up_to most max) e ∙ ap found (number_again most max n front rest q ends), refl);
-}
+up_number_up_to most max = grind (arith, found_ok, number_again, number_takes)
 
 pub up_number : ReadsUp number_at IsUint32 (NoMore is_digit) Same Same
 up_number = up_number_up_to uint32_digits uint32_max

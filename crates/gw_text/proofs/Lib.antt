@@ -1,7 +1,7 @@
 pub mod Fronts
 pub mod Ahead
 pub mod TokenLemmas
-pub mod TokenLetters
+pub mod TokenInitials
 pub mod TokenTable
 pub mod RunLemmas
 pub mod SpaceLemmas

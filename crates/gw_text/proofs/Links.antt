@@ -1,36 +1,22 @@
 -- What forms begin with, and so what may stand behind what.
-use Rattle.std.proofs.Common.{◌≡◌, ℕ, ◌<◌, Bool, true, false, not, ◌==◌, ◌||◌, List, [], ◌∷◌, ◌++◌, length, None, refl, ap, sym, subst, ◌∙◌, arith}
-use Rattle.std.specs.List.{list_all}
-use Rattle.std.proofs.lemmas.Bool.{eqb-true}
+use Rattle.std.proofs.Common.{◌≡◌, ℕ, ◌<◌, Bool, true, false, not, ◌==◌, ◌||◌, List, [], ◌∷◌, ◌++◌, length, None, refl, ap, sym, ◌∙◌, arith}
+use Rattle.std.proofs.lemmas.Bool.{eqb-true, not-true, false_from_ne_true}
 use Rattle.gw_base.specs.Bytes.{is_digit, is_letter}
 use Rattle.gw_base.specs.Lang.{Both}
-use Rattle.gw_text.specs.Lexical.{tab, space, line_feed, carriage_return, semicolon, is_blank, is_space_start, is_solid, is_safe, is_safe_mark}
+use Rattle.gw_text.specs.Lexical.{tab, space, line_feed, carriage_return, semicolon, is_space_start, is_solid, is_safe, is_safe_mark}
 use Rattle.gw_text.specs.Space.{IsSpace, IsSep}
 use Rattle.gw_text.specs.Runs.{begins, IsRun, is_byte, NoMore}
 use Rattle.gw_text.specs.Sign.{byte_at, sign_at}
 use Rattle.gw_text.specs.Forms.{IsWord, IsNumber, IsSign}
-use Rattle.gw_text.proofs.RunLemmas.{and_true}
 use Rattle.gw_text.proofs.Skips.{space_first}
 use Rattle.gw_text.proofs.Signs.{sign_ends, sign_other, no_sign}
 use Rattle.gw_text.proofs.ReadsUp.{both_split, begins_append, begins_apart}
 
 -- ---- classes
 
-or_cases : (P : Type 0) (a b : Bool) → a || b ≡ true → (a ≡ true → P) → (b ≡ true → P) → P
-or_cases P true b h f g = f refl
-or_cases P false b h f g = g h
-
-regroup : (a b d : Bool) → a || b || d ≡ true → (a || b) || d ≡ true
-regroup a b d h = h
-
 -- what holds of the five bytes with which white space begins
 pub space_bytes : (P : ℕ → Type 0) → P space → P tab → P carriage_return → P line_feed → P semicolon → (c : ℕ) → is_space_start c ≡ true → P c
-space_bytes P a b d e f c h =
-    or_cases (P c) (is_blank c) (c == semicolon) h
-    (λ w. or_cases (P c) (c == space || c == tab) (c == carriage_return || c == line_feed) (regroup (c == space) (c == tab) (c == carriage_return || c == line_feed) w)
-    (λ x. or_cases (P c) (c == space) (c == tab) x (λ y. subst P (sym (eqb-true c space y)) a) (λ y. subst P (sym (eqb-true c tab y)) b))
-    (λ x. or_cases (P c) (c == carriage_return) (c == line_feed) x (λ y. subst P (sym (eqb-true c carriage_return y)) d) (λ y. subst P (sym (eqb-true c line_feed y)) e)))
-    (λ y. subst P (sym (eqb-true c semicolon y)) f)
+space_bytes P a b d e f c h = grind arith
 
 -- no safe byte begins white space
 pub safe_apart : (c : ℕ) → is_space_start c ≡ true → is_safe c ≡ false
@@ -44,13 +30,9 @@ digit_apart = space_bytes (λ c. is_digit c ≡ false) refl refl refl refl refl
 pub solid_apart : (c : ℕ) → is_space_start c ≡ true → is_solid c ≡ false
 solid_apart c h = ap not h
 
-not_false : (b : Bool) → (b ≡ true → ⊥) → b ≡ false
-not_false true h = absurd (h refl)
-not_false false h = refl
-
 -- what begins no white space, of a class of which white space begins with none
 pub is_solid_by : (p : ℕ → Bool) → ((c : ℕ) → is_space_start c ≡ true → p c ≡ false) → (c : ℕ) → p c ≡ true → is_solid c ≡ true
-is_solid_by p h c is = ap not (not_false (is_space_start c) (λ s. let e : true ≡ false = sym is ∙ h c s in absurd cc))
+is_solid_by p h c is = ap not (false_from_ne_true (is_space_start c) (λ s. let e : true ≡ false = sym is ∙ h c s in absurd cc))
 
 pub safe_is_solid : (c : ℕ) → is_safe c ≡ true → is_solid c ≡ true
 safe_is_solid = is_solid_by is_safe safe_apart
@@ -59,9 +41,7 @@ pub digit_is_solid : (c : ℕ) → is_digit c ≡ true → is_solid c ≡ true
 digit_is_solid = is_solid_by is_digit digit_apart
 
 left_or : (a b c : Bool) → b ≡ true → a || b || c ≡ true
-left_or true b c h = refl
-left_or false true c h = refl
-left_or false false c h = absurd cc
+left_or a b c h = grind arith
 
 pub digit_is_safe : (c : ℕ) → is_digit c ≡ true → is_safe c ≡ true
 digit_is_safe c h = left_or (is_letter c) (is_digit c) (is_safe_mark c) h
@@ -69,8 +49,7 @@ digit_is_safe c h = left_or (is_letter c) (is_digit c) (is_safe_mark c) h
 -- ---- what forms begin with
 
 pub run_begins : (p q : ℕ → Bool) → ((c : ℕ) → p c ≡ true → q c ≡ true) → (text : List ℕ) → IsRun p text → 0 < length text → begins q text ≡ true
-run_begins p q h [] run some = absurd (omega arith)
-run_begins p q h (c ∷ cs) run some = h c (and_true (p c) (list_all p cs) run).0
+run_begins p q h text run some = grind arith
 
 pub word_begins : (text : List ℕ) → IsWord text → begins is_safe text ≡ true
 word_begins text h = run_begins is_safe is_safe (λ c e. e) text h.run h.some
@@ -119,24 +98,18 @@ begins_ends p q apart front rest b = begins_apart p q apart (front ++ rest) (beg
 -- another byte is there, or none
 byte_apart : (b : ℕ) (text : List ℕ) → begins (is_byte b) text ≡ false → byte_at b text ≡ None
 unfolding byte_at
-byte_apart b [] h = refl
-byte_apart b (c ∷ cs) h = rw h refl
+byte_apart b text h = grind arith
 
 pub no_byte : (b : ℕ) (text : List ℕ) → NoMore (is_byte b) text → byte_at b text ≡ None
 no_byte b text h = byte_apart b text h
 
 -- a byte of a class is another than one that is not
 pub is_another : (c b : ℕ) (p : ℕ → Bool) → p b ≡ false → p c ≡ true → c == b ≡ false
-is_another c b p other is = not_false (c == b) (λ e. let same : true ≡ false = sym is ∙ ap p (eqb-true c b e) ∙ other in absurd cc)
-
-solid_start : (t : Bool) → not t ≡ true → t ≡ false
-solid_start true h = absurd cc
-solid_start false h = refl
+is_another c b p other is = false_from_ne_true (c == b) (λ e. let same : true ≡ false = sym is ∙ ap p (eqb-true c b e) ∙ other in absurd cc)
 
 -- a text that begins with solid bytes of a class to which the sign's byte does not belong
 pub begins_no_sign : (p : ℕ → Bool) (b : ℕ) → ((c : ℕ) → p c ≡ true → is_solid c ≡ true) → p b ≡ false → (text : List ℕ) → begins p text ≡ true → sign_at b text ≡ None
-begins_no_sign p b solid other [] h = absurd cc
-begins_no_sign p b solid other (c ∷ cs) h = no_sign b c cs (solid_start (is_space_start c) (solid c h)) (is_another c b p other h)
+begins_no_sign p b solid other text h = grind (arith, is_another, no_sign, not-true)
 
 -- bytes that begin with a byte end, white space aside, what neither goes on with
 pub ahead_ends : (p : ℕ → Bool) (b : ℕ) (Q : List ℕ → Type 0) → ((c : ℕ) → is_space_start c ≡ true → p c ≡ false) → p b ≡ false → ((text : List ℕ) → Q text → begins (is_byte b) text ≡ true) → (front rest : List ℕ) → Both IsSpace Q front → NoMore p (front ++ rest)
@@ -154,4 +127,4 @@ with_second b y = record { front = b.front; back = b.back; split = b.split; firs
 
 -- a solid byte does not begin white space
 pub byte_apart_space : (b : ℕ) → is_solid b ≡ true → (c : ℕ) → is_space_start c ≡ true → is_byte b c ≡ false
-byte_apart_space b solid c start = not_false (c == b) (λ e. let same : true ≡ false = sym start ∙ ap is_space_start (eqb-true c b e) ∙ solid_start (is_space_start b) solid in absurd cc)
+byte_apart_space b solid c start = false_from_ne_true (c == b) (λ e. let same : true ≡ false = sym start ∙ ap is_space_start (eqb-true c b e) ∙ not-true (is_space_start b) solid in absurd cc)

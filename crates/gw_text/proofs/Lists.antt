@@ -30,8 +30,7 @@ LastUp Next = NoSign comma Next
 -- ---- lists with commas
 
 pub cons_separated : {V : Type 0} (Form : V → List ℕ → Type 0) (v : V) (us : List V) (f c g : List ℕ) → Form v f → IsSign comma c → Separated Form us g → Separated Form (v ∷ us) (f ++ (c ++ g))
-cons_separated Form v [] f c g one sign others = absurd others
-cons_separated Form v (u ∷ us) f c g one sign others = record { front = f; back = c ++ g; split = refl; first = one; second = record { front = c; back = g; split = refl; first = sign; second = others } }
+cons_separated Form v us f c g one sign others = grind arith
 
 -- a list begins as its first part
 pub separated_begins : {V : Type 0} (p : ℕ → Bool) (Form : V → List ℕ → Type 0) → BeginsWith p Form → BeginsWith p (Separated Form)
@@ -46,12 +45,8 @@ separated_len Form (v ∷ (u ∷ us)) front s =
     let c = s.second in
     omega (arith, separated_len Form (u ∷ us) c.back c.second, sign_len comma c.front c.first, ap length s.split, length-append s.front s.back, ap length c.split, length-append c.front c.back)
 
-first_some : {V : Type 0} (v : V) (o : Option (List V × List ℕ)) (vs : List V) (rest : List ℕ) → with_first v o ≡ Some (vs, rest) → (us : List V) × (o ≡ Some (us, rest)) × (v ∷ us ≡ vs)
-first_some v None vs rest e = absurd cc
-first_some {V} v (Some x) vs rest e =
-    let made : List V × List ℕ = (v ∷ x.0, x.1) in
-    let same = some_is made (vs, rest) e in
-    (x.0, ap (λ (p : List V × List ℕ). Some (x.0, p.1)) same, ap (λ (p : List V × List ℕ). p.0) same)
+pub first_some : {V : Type 0} (v : V) (o : Option (List V × List ℕ)) (vs : List V) (rest : List ℕ) → with_first v o ≡ Some (vs, rest) → (us : List V) × (o ≡ Some (us, rest)) × (v ∷ us ≡ vs)
+first_some v o vs rest e = grind arith
 
 comma_sound : {V : Type 0} (Form : V → List ℕ → Type 0) (others : Reader (List V)) → ((text : List ℕ) (vs : List V) (rest : List ℕ) → others text ≡ Some (vs, rest) → (front : List ℕ) × (text ≡ front ++ rest) × Separated Form vs front)
     → (v : V) (mid : List ℕ) (o : Option (List ℕ)) (vs : List V) (rest : List ℕ) → sign_at comma mid ≡ o → if_comma others v mid o ≡ Some (vs, rest)
@@ -154,8 +149,7 @@ optional_to {V} Form (v ∷ vs) text (inl b) = b
 optional_to {V} Form vs text (inr n) = subst (λ (us : List V). OptionalBraced Form us text) n.0 n.1
 
 optional_of : {V : Type 0} (Form : V → List ℕ → Type 0) (vs : List V) (text : List ℕ) → OptionalBraced Form vs text → (Braced Form vs text ⊎ (([] ≡ vs) × (text ≡ [])))
-optional_of Form [] text b = inr (refl, b)
-optional_of Form (v ∷ vs) text b = inl b
+optional_of Form vs text b = grind arith
 
 -- [LBRKT, one or more, RBRKT]
 pub up_optional : {V : Type 0} (r : Reader V) (Form : V → List ℕ → Type 0) (Next Follow : List ℕ → Type 0) → ReadsUp r Form Next Same UpTo → BracesUp Form Next
@@ -176,8 +170,7 @@ empty_cases Form [] text front back split first (inr q) = absurd q.first
 empty_cases Form (v ∷ vs) text front back split first (inr q) = record { front = front; back = back; split = split; first = first; second = q }
 
 empty_of : {V : Type 0} (Form : V → List ℕ → Type 0) (vs : List V) (text : List ℕ) → BracedOrEmpty Form vs text → Both (IsSign left_brace) (λ t. Both (IsSign right_brace) (λ t. ([] ≡ vs) × (t ≡ [])) t ⊎ ClosedList Form vs t) text
-empty_of Form [] text b = record { front = b.front; back = b.back; split = b.split; first = b.first; second = inl (record { front = b.back; back = []; split = sym (append-nil b.back); first = b.second; second = (refl, refl) }) }
-empty_of Form (v ∷ vs) text b = record { front = b.front; back = b.back; split = b.split; first = b.first; second = inr b.second }
+empty_of Form vs text b = grind (arith, append-nil)
 
 -- LBRKT, any number, RBRKT, where the parts begin with bytes of a class, which has neither the brace nor white space
 pub up_braced_or_empty : {V : Type 0} (p : ℕ → Bool) (r : Reader V) (Form : V → List ℕ → Type 0) (Next : List ℕ → Type 0) → ((c : ℕ) → p c ≡ true → is_solid c ≡ true) → p right_brace ≡ false → BeginsWith p Form

@@ -1,13 +1,14 @@
 -- Octets as they are scanned are octets as they are defined, and what is kept of them is what is to be kept.
 use Rattle.std.proofs.Common.{◌≡◌, ◌⊎◌, inl, inr, ℕ, suc, ◌+◌, Bool, true, false, cond, not, ◌==◌, ◌||◌, ◌&&◌, List, [], ◌∷◌, ◌++◌, length, Option, Some, None, refl, ap, sym, ◌∙◌, arith}
 use Rattle.std.specs.List.{list_all}
-use Rattle.std.proofs.lemmas.Bool.{eqb-true}
+use Rattle.std.proofs.lemmas.Bool.{eqb-true, not-true, ne_eqb, and_parts}
+use Rattle.std.proofs.Math.Bool.{or-true}
 use Rattle.gw_text.specs.Lexical.{nul, backslash, right_brace, is_blank}
 use Rattle.gw_text.specs.Runs.{IsRun}
 use Rattle.gw_text.specs.Octets.{is_octet, EndsIn, IsOctets}
 use Rattle.gw_text.specs.OctetsScan.{octets_from}
-use Rattle.gw_text.proofs.RunLemmas.{and_true}
 use Rattle.gw_text.proofs.Signs.{some_is}
+use Rattle.gw_text.proofs.RunLemmas.{either}
 
 -- ---- octets, with a flag: whether a `\` stands in front of them
 
@@ -19,10 +20,6 @@ are_octets escaped (b ∷ bs) = not (b == nul) && ((escaped || not (b == right_b
 abbrev pub keep_end : (escaped : Bool) (passed keep : ℕ) → List ℕ → ℕ
 keep_end escaped passed keep [] = keep
 keep_end escaped passed keep (b ∷ bs) = keep_end (b == backslash) (passed + 1) (cond (escaped || not (is_blank b)) (passed + 1) keep) bs
-
-not_true : (b : Bool) → not b ≡ true → b ≡ false
-not_true false h = refl
-not_true true h = absurd cc
 
 -- ---- the scan
 
@@ -36,14 +33,10 @@ pub record IsFound (escaped : Bool) (passed keep : ℕ) (text : List ℕ) (ends 
   pub kept_is : kept ≡ keep_end escaped passed keep body
 
 found_step : (z c : Bool) (here there : Option (ℕ × ℕ)) (x : ℕ × ℕ) (P : Type 0) → cond z None (cond c here there) ≡ Some x → (z ≡ false → c ≡ true → here ≡ Some x → P) → (z ≡ false → c ≡ false → there ≡ Some x → P) → P
-found_step true c here there x P e f g = absurd cc
-found_step false true here there x P e f g = f refl refl e
-found_step false false here there x P e f g = g refl refl e
+found_step z c here there x P e f g = grind arith
 
 escaped_or : (e r : Bool) → not e && r ≡ false → e || not r ≡ true
-escaped_or true r h = refl
-escaped_or false false h = refl
-escaped_or false true h = absurd cc
+escaped_or e r h = grind arith
 
 pub octets_sound : (escaped : Bool) (passed keep : ℕ) (text : List ℕ) (ends kept : ℕ) → octets_from escaped passed keep text ≡ Some (ends, kept) → IsFound escaped passed keep text ends kept
 octets_sound escaped passed keep [] ends kept e = absurd cc
@@ -52,7 +45,7 @@ octets_sound escaped passed keep (b ∷ bs) ends kept e =
     let x : ℕ × ℕ = (ends, kept) in
     found_step (b == nul) (not escaped && b == right_brace) (Some here) (octets_from (b == backslash) (passed + 1) (cond (escaped || not (is_blank b)) (passed + 1) keep) bs) x (IsFound escaped passed keep (b ∷ bs) ends kept) e
     (λ z c s.
-    let h = and_true (not escaped) (b == right_brace) c in
+    let h = and_parts (not escaped) (b == right_brace) c in
     let same = some_is here x s in
     let ends-is : passed ≡ ends = ap (λ (p : ℕ × ℕ). p.0) same in
     let kept-is : keep ≡ kept = ap (λ (p : ℕ × ℕ). p.1) same in
@@ -64,19 +57,17 @@ octets_sound escaped passed keep (b ∷ bs) ends kept e =
     record { body = b ∷ f.body; rest = f.rest; split = ap (λ (x : List ℕ). b ∷ x) f.split; octets = rw (z, ok, o) refl; ends_is = omega (arith, f.ends_is); kept_is = f.kept_is })
 
 not_close : (e r : Bool) → e || not r ≡ true → not e && r ≡ false
-not_close true r h = refl
-not_close false false h = refl
-not_close false true h = absurd cc
+not_close e r h = grind arith
 
 pub octets_again : (escaped : Bool) (passed keep : ℕ) (body rest : List ℕ) → are_octets escaped body ≡ true → octets_from escaped passed keep (body ++ right_brace ∷ rest) ≡ Some (passed + length body, keep_end escaped passed keep body)
 octets_again escaped passed keep [] rest h =
     let e : passed + 0 ≡ passed = omega arith in
-    let n : escaped ≡ false = not_true escaped h in
+    let n : escaped ≡ false = not-true escaped h in
     rw (n, e) refl
 octets_again escaped passed keep (b ∷ bs) rest h =
-    let a = and_true (not (b == nul)) ((escaped || not (b == right_brace)) && are_octets (b == backslash) bs) h in
-    let c = and_true (escaped || not (b == right_brace)) (are_octets (b == backslash) bs) a.1 in
-    let z : b == nul ≡ false = not_true (b == nul) a.0 in
+    let a = and_parts (not (b == nul)) ((escaped || not (b == right_brace)) && are_octets (b == backslash) bs) h in
+    let c = and_parts (escaped || not (b == right_brace)) (are_octets (b == backslash) bs) a.1 in
+    let z : b == nul ≡ false = not-true (b == nul) a.0 in
     let r : not escaped && b == right_brace ≡ false = not_close escaped (b == right_brace) c.0 in
     let e : passed + suc (length bs) ≡ passed + 1 + length bs = omega arith in
     rw (z, r, e) (octets_again (b == backslash) (passed + 1) (cond (escaped || not (is_blank b)) (passed + 1) keep) bs rest c.1)
@@ -94,10 +85,6 @@ nil_not_cons : (front : List ℕ) (b : ℕ) (after : List ℕ) → [] ≡ front 
 nil_not_cons [] b after e = absurd cc
 nil_not_cons (c ∷ cs) b after e = absurd cc
 
-either_true : (P : Type 0) (a b : Bool) → a || b ≡ true → (a ≡ true → P) → (b ≡ true → P) → P
-either_true P true b h f g = f refl
-either_true P false b h f g = g h
-
 ends_more : (b : ℕ) (front : List ℕ) → EndsIn backslash front → EndsIn backslash (b ∷ front)
 ends_more b front h = (b ∷ h.0, ap (λ (x : List ℕ). b ∷ x) h.1)
 
@@ -105,9 +92,9 @@ braces_more : (escaped : Bool) (b : ℕ) (bs : List ℕ) → escaped || not (b =
     → (before after : List ℕ) → b ∷ bs ≡ before ++ right_brace ∷ after → ((before ≡ []) × (escaped ≡ true)) ⊎ EndsIn backslash before
 braces_more escaped b bs ok h [] after e =
     let same : b ≡ right_brace = cc in
-    either_true (([] ≡ []) × (escaped ≡ true) ⊎ EndsIn backslash []) escaped (not (b == right_brace)) ok
+    either (([] ≡ []) × (escaped ≡ true) ⊎ EndsIn backslash []) escaped (not (b == right_brace)) ok
     (λ i. inl (refl, i))
-    (λ i. let t : b == right_brace ≡ true = ap (λ (c : ℕ). c == right_brace) same in let f : b == right_brace ≡ false = not_true (b == right_brace) i in let clash : true ≡ false = sym t ∙ f in absurd cc)
+    (λ i. let t : b == right_brace ≡ true = ap (λ (c : ℕ). c == right_brace) same in let f : b == right_brace ≡ false = not-true (b == right_brace) i in let clash : true ≡ false = sym t ∙ f in absurd cc)
 braces_more escaped b bs ok h (c ∷ cs) after e =
     let same : b ≡ c = cc in
     let rest : bs ≡ cs ++ right_brace ∷ after = cc in
@@ -133,12 +120,12 @@ are_sound : (escaped : Bool) (body : List ℕ) → are_octets escaped body ≡ t
 are_sound escaped [] h = record {
   octets = refl;
   braces = λ before after e. absurd (nil_not_cons before right_brace after e);
-  open_end = λ _. not_true escaped h;
+  open_end = λ _. not-true escaped h;
   closed = λ x. nil_not_cons x.0 backslash [] x.1;
 }
 are_sound escaped (b ∷ bs) h =
-    let a = and_true (not (b == nul)) ((escaped || not (b == right_brace)) && are_octets (b == backslash) bs) h in
-    let c = and_true (escaped || not (b == right_brace)) (are_octets (b == backslash) bs) a.1 in
+    let a = and_parts (not (b == nul)) ((escaped || not (b == right_brace)) && are_octets (b == backslash) bs) h in
+    let c = and_parts (escaped || not (b == right_brace)) (are_octets (b == backslash) bs) a.1 in
     let k = are_sound (b == backslash) bs c.1 in
     let some = a.0 in let run = k.octets in
     record {
@@ -148,22 +135,11 @@ are_sound escaped (b ∷ bs) h =
       closed = closed_more b bs k;
     }
 
-or_true : (a : Bool) → a || true ≡ true
-or_true true = refl
-or_true false = refl
-
 brace_ok : (escaped : Bool) (b : ℕ) (bs : List ℕ) → AreOctets escaped (b ∷ bs) → (t : Bool) → b == right_brace ≡ t → escaped || not t ≡ true
-brace_ok escaped b bs h false is = or_true escaped
+brace_ok escaped b bs h false is = or-true escaped
 brace_ok escaped b bs h true is =
     let first : b ∷ bs ≡ [] ++ right_brace ∷ bs = ap (λ (c : ℕ). c ∷ bs) (eqb-true b right_brace is) in
     elim (h.braces [] bs first) [ inl i ↦ ap (λ (e : Bool). e || false) i.1 | inr i ↦ absurd (nil_not_cons i.0 backslash [] i.1) ]
-
-not_is : (t : Bool) → (t ≡ true → ⊥) → t ≡ false
-not_is true h = absurd (h refl)
-not_is false h = refl
-
-not_same : (b c : ℕ) → (b ≡ c → ⊥) → b == c ≡ false
-not_same b c h = not_is (b == c) (λ e. h (eqb-true b c e))
 
 last_of : (b : ℕ) (before front : List ℕ) → b ∷ before ≡ front ++ backslash ∷ [] → ((before ≡ []) × (b == backslash ≡ true)) ⊎ EndsIn backslash before
 last_of b before [] e =
@@ -181,11 +157,11 @@ after_byte escaped b bs h before after e =
 are_complete : (escaped : Bool) (body : List ℕ) → AreOctets escaped body → are_octets escaped body ≡ true
 are_complete escaped [] h = let e = h.open_end refl in rw e refl
 are_complete escaped (b ∷ bs) h =
-    let run = and_true (is_octet b) (list_all is_octet bs) h.octets in
+    let run = and_parts (is_octet b) (list_all is_octet bs) h.octets in
     let more : AreOctets (b == backslash) bs = record {
       octets = run.1;
       braces = λ before after e. after_byte escaped b bs h before after e;
-      open_end = λ e. not_same b backslash (λ same. h.closed ([], ap (λ (c : ℕ). c ∷ bs) same ∙ ap (λ (x : List ℕ). backslash ∷ x) e));
+      open_end = λ e. ne_eqb b backslash (λ same. h.closed ([], ap (λ (c : ℕ). c ∷ bs) same ∙ ap (λ (x : List ℕ). backslash ∷ x) e));
       closed = λ x. h.closed (ends_more b bs x);
     } in
     let ok : escaped || not (b == right_brace) ≡ true = brace_ok escaped b bs h (b == right_brace) refl in
@@ -197,6 +173,4 @@ pub octets_are : (body : List ℕ) → IsOctets body → are_octets false body �
 octets_are body h = are_complete false body (record { octets = h.octets; braces = λ before after e. inr (h.escaped before after e); open_end = λ _. refl; closed = h.closed })
 
 pub are_are : (body : List ℕ) → are_octets false body ≡ true → IsOctets body
-are_are body h =
-    let k = are_sound false body h in
-    record { octets = k.octets; escaped = λ before after e. elim (k.braces before after e) [ inl i ↦ absurd cc | inr i ↦ i ]; closed = k.closed }
+are_are body h = grind (arith, are_sound)

@@ -3,21 +3,20 @@ use Rattle.std.proofs.Common.{◌≡◌, ℕ, zero, suc, ◌+◌, ◌-◌, ◌<�
 use Rattle.std.specs.List.{list_all}
 use Rattle.std.proofs.lemmas.List.{take-append-drop, length-take}
 use Rattle.std.proofs.lemmas.List.Folds.{list_all_more}
+use Rattle.std.proofs.lemmas.Bool.{and_parts}
 use Rattle.gw_text.specs.Lexical.{nul, backslash, right_brace, is_blank}
 use Rattle.gw_text.specs.Runs.{IsRun}
 use Rattle.gw_text.specs.OctetsScan.{is_plain, end_behind, solid_end, octets_ends}
-use Rattle.gw_text.proofs.RunLemmas.{and_true, at_byte}
+use Rattle.gw_text.proofs.RunLemmas.{at_byte}
 use Rattle.gw_text.proofs.OctetsLemmas.{are_octets, keep_end, octets_again}
 
 -- ---- from the last byte to the one before
 
 one_on : (b : ℕ) (bs : List ℕ) (n : ℕ) → 0 < n → get_or (b ∷ bs) (suc n - 1) 0 ≡ get_or bs (n - 1) 0
-one_on b bs zero some = absurd (omega arith)
-one_on b bs (suc n) some = let e : suc (suc n) - 1 ≡ suc n = omega arith in let f : suc n - 1 ≡ n = omega arith in rw (e, f) refl
+one_on b bs n some = grind arith
 
 one_less : (b : ℕ) (bs : List ℕ) (n : ℕ) → 0 < n → take (suc n - 1) (b ∷ bs) ≡ b ∷ take (n - 1) bs
-one_less b bs zero some = absurd (omega arith)
-one_less b bs (suc n) some = let e : suc (suc n) - 1 ≡ suc n = omega arith in let f : suc n - 1 ≡ n = omega arith in rw (e, f) refl
+one_less b bs n some = grind arith
 
 pub end_solid : (front : List ℕ) → 0 < length front → is_blank (get_or front (length front - 1) 0) ≡ false → solid_end front ≡ length front
 end_solid [] some h = absurd (omega arith)
@@ -39,15 +38,12 @@ end_blank (b ∷ (c ∷ cs)) some h =
 -- ---- the ends of octets
 
 plain_is : (a b c : Bool) → not (a || b || c) ≡ true → (a ≡ false) × (b ≡ false) × (c ≡ false)
-plain_is false false false h = (refl, refl, refl)
-plain_is true b c h = absurd cc
-plain_is false true c h = absurd cc
-plain_is false false true h = absurd cc
+plain_is a b c h = grind arith
 
 plain_octets : (body : List ℕ) → IsRun is_plain body → are_octets false body ≡ true
 plain_octets [] h = refl
 plain_octets (b ∷ bs) h =
-    let a = and_true (is_plain b) (list_all is_plain bs) h in
+    let a = and_parts (is_plain b) (list_all is_plain bs) h in
     let p = plain_is (b == right_brace) (b == backslash) (b == nul) a.0 in
     rw (p.2, p.0, p.1) (plain_octets bs a.1)
 
@@ -57,21 +53,18 @@ end_or keep passed zero = keep
 end_or keep passed (suc end) = passed + suc end
 
 end_step : (b : ℕ) (blank : Bool) → is_blank b ≡ blank → (end passed keep : ℕ) → end_or (cond (not blank) (passed + 1) keep) (passed + 1) end ≡ end_or keep passed (end_behind b end)
-end_step b true is zero passed keep = rw is refl
-end_step b false is zero passed keep = rw is refl
-end_step b blank is (suc end) passed keep = omega arith
+end_step b blank is end passed keep = grind arith
 
 plain_keeps : (passed keep : ℕ) (body : List ℕ) → IsRun is_plain body → keep_end false passed keep body ≡ end_or keep passed (solid_end body)
 plain_keeps passed keep [] h = refl
 plain_keeps passed keep (b ∷ bs) h =
-    let a = and_true (is_plain b) (list_all is_plain bs) h in
+    let a = and_parts (is_plain b) (list_all is_plain bs) h in
     let p = plain_is (b == right_brace) (b == backslash) (b == nul) a.0 in
     let next = plain_keeps (passed + 1) (cond (not (is_blank b)) (passed + 1) keep) bs a.1 in
     rw p.1 (next ∙ end_step b (is_blank b) refl (solid_end bs) passed keep)
 
 zero_or : (n : ℕ) → end_or 0 0 n ≡ n
-zero_or zero = refl
-zero_or (suc n) = omega arith
+zero_or n = grind arith
 
 pub plain_ends : (text : List ℕ) (len : ℕ) → len < length text → IsRun is_plain (take len text) → get_or text len 0 ≡ right_brace → octets_ends text ≡ Some (len, solid_end (take len text))
 unfolding octets_ends
@@ -86,8 +79,7 @@ plain_ends text len within plain closed =
 -- ---- bytes before the first that is not plain
 
 not_true : (t : Bool) → (t ≡ true → ⊥) → not t ≡ true
-not_true false h = refl
-not_true true h = absurd (h refl)
+not_true t h = grind arith
 
 pub no_other : (text : List ℕ) (k : ℕ) → (get_or text k 0 == right_brace || get_or text k 0 == backslash || get_or text k 0 == nul ≡ true → ⊥) → is_plain (get_or text k 0) ≡ true
 no_other text k h = not_true (get_or text k 0 == right_brace || get_or text k 0 == backslash || get_or text k 0 == nul) h

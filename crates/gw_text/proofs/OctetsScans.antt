@@ -1,5 +1,5 @@
 -- What the scans of octets and of quoted texts answer.
-use Rattle.std.proofs.Common.{◌≡◌, ℕ, ◌+◌, ◌≤◌, Bool, true, false, cond, not, ◌==◌, ◌||◌, List, [], ◌∷◌, ◌++◌, length, take, drop, Option, Some, None, Result, Ok, Err, refl, ap, sym, subst, ◌∙◌, append_assoc, length-append, arith}
+use Rattle.std.proofs.Common.{◌≡◌, ℕ, ◌+◌, ◌≤◌, Bool, true, false, cond, not, ◌==◌, ◌||◌, List, [], ◌∷◌, ◌++◌, length, take, drop, Option, Some, None, Result, Ok, Err, refl, ap, sym, subst, ◌∙◌, append_assoc, length-append, arith, ◌<◌}
 use Rattle.std.proofs.lemmas.List.{take-append-drop, take-append-le, take_at, drop_at, length-take}
 use Rattle.std.proofs.lemmas.Bool.{eqb-true}
 use Rattle.gw_text.specs.Lexical.{right_brace, quote_mark, backslash, is_blank}
@@ -12,7 +12,7 @@ use Rattle.gw_text.specs.Reader.{found, octets_read, quoted_read}
 use Rattle.gw_text.specs.declared.fault.ScanFault.{ScanFault}
 use Rattle.gw_text.specs.declared.fault.ScanFault.TheVariants.{Unexpected}
 use Rattle.gw_text.proofs.RunLemmas.{run_again, run_is, run_len-le}
-use Rattle.gw_text.proofs.Signs.{some_is, same_byte}
+use Rattle.gw_text.proofs.Signs.{same_byte}
 use Rattle.gw_text.proofs.Leaves.{found_ok}
 use Rattle.gw_text.proofs.ReadsUp.{ReadsUp, Same, Any}
 use Rattle.gw_text.proofs.OctetsLemmas.{keep_end, octets_sound, octets_again, octets_are, are_are}
@@ -21,8 +21,7 @@ use Rattle.gw_text.proofs.TrimLemmas.{kept_is, kept_trimmed, trim_of}
 -- ---- octets
 
 keep_step : (t : Bool) (a b n : ℕ) → a ≤ n → b ≤ n → cond t a b ≤ n
-keep_step true a b n p q = p
-keep_step false a b n p q = q
+keep_step t a b n p q = grind arith
 
 keep_le : (escaped : Bool) (passed keep : ℕ) (xs : List ℕ) → keep ≤ passed → keep_end escaped passed keep xs ≤ passed + length xs
 keep_le escaped passed keep [] le = omega (arith, le)
@@ -36,9 +35,6 @@ pub record IsTakenOctets (text span rest : List ℕ) : Type 0 where
   pub split : text ≡ body ++ rest
   pub closed : begins (is_byte right_brace) rest ≡ true
   pub octets : IsOctetsOf span body
-
-ok_is : {A : Type 0} (x y : A) (F : Type 0) → let r : Result A F = Ok x in r ≡ Ok y → x ≡ y
-ok_is x y F e = cc
 
 taken_octets : (text span rest : List ℕ) (o : Option (ℕ × ℕ)) → octets_from false 0 0 text ≡ o → octets_found text o ≡ Ok (span, rest) → IsTakenOctets text span rest
 taken_octets text span rest None is e = absurd cc
@@ -78,16 +74,12 @@ octets_read_on span body more h =
     ap (octets_found (body ++ back)) ends ∙ rw (kept, left) refl
 
 first_byte : (b : ℕ) (rest : List ℕ) → begins (is_byte b) rest ≡ true → (more : List ℕ) × (rest ≡ b ∷ more)
-first_byte b [] h = absurd cc
-first_byte b (c ∷ cs) h = (cs, ap (λ (x : ℕ). x ∷ cs) (eqb-true c b h))
+first_byte b rest h = grind arith
 
 pub octets_again_at : (span body rest : List ℕ) → IsOctetsOf span body → begins (is_byte right_brace) rest ≡ true → octets_at (body ++ rest) ≡ Ok (span, rest)
 octets_again_at span body rest h closes =
     let f = first_byte right_brace rest closes in
     subst (λ (r : List ℕ). octets_at (body ++ r) ≡ Ok (span, r)) (sym f.1) (octets_read_on span body f.0 h)
-
-found_none : {A : Type 0} (x : A) (f : ScanFault) → let r : Result A ScanFault = Ok x in r ≡ Err f → ⊥
-found_none x f e = absurd cc
 
 -- there are no octets where the scan answers a fault
 pub no_octets : (text : List ℕ) (f : ScanFault) → octets_at text ≡ Err f → (body rest : List ℕ) → text ≡ body ++ right_brace ∷ rest → ¬ IsOctets body
@@ -96,14 +88,6 @@ no_octets text f e body rest split h =
     let again : octets_at text ≡ Ok (span.0, right_brace ∷ rest) = ap octets_at split ∙ octets_read_on span.0 body rest (record { octets = h; trimmed = span.1 }) in
     let clash : ◌≡◌ {A = Result (List ℕ × List ℕ) ScanFault} (Err f) (Ok (span.0, right_brace ∷ rest)) = sym e ∙ again in
     absurd cc
-
-fault_of : (text : List ℕ) (o : Option (ℕ × ℕ)) (f : ScanFault) → octets_found text o ≡ Err f → f ≡ Unexpected
-fault_of text None f e = cc
-fault_of text (Some ends) f e = absurd cc
-
-pub octets_fault : (text : List ℕ) (f : ScanFault) → octets_at text ≡ Err f → f ≡ Unexpected
-unfolding octets_at
-octets_fault text f e = fault_of text (octets_ends text) f e
 
 -- octets up to their closing brace
 pub up_octets : ReadsUp octets_read IsOctetsOf (λ rest. begins (is_byte right_brace) rest ≡ true) Same Same
@@ -116,9 +100,11 @@ up_octets = record {
 
 -- ---- quoted texts
 
+pub quoted_some : (span : List ℕ) → IsQuoted span → 0 < length span
+quoted_some span h = omega (arith, ap length h.split, length-append h.front h.back, ap length h.first)
+
 quoted_cases : (P : Type 0) (t : Bool) (n len : ℕ) → cond t (Some n) None ≡ Some len → (t ≡ true → n ≡ len → P) → P
-quoted_cases P true n len e f = f refl (some_is n len e)
-quoted_cases P false n len e f = absurd cc
+quoted_cases P t n len e f = grind arith
 
 quoted_first : (b : ℕ) (bs : List ℕ) (len : ℕ) (t : Bool) → b == quote_mark ≡ t → cond t (quoted_end (run_len is_quotable bs) (drop (run_len is_quotable bs) bs)) None ≡ Some len → (front rest : List ℕ) × (b ∷ bs ≡ front ++ rest) × (len ≡ length front) × IsQuoted front
 quoted_first b bs len false is e = absurd cc
@@ -141,31 +127,13 @@ quoted_first b bs len true is e =
     ))
 
 pub quoted_sound : (text : List ℕ) (len : ℕ) → quoted_from text ≡ Some len → (front rest : List ℕ) × (text ≡ front ++ rest) × (len ≡ length front) × IsQuoted front
-quoted_sound [] len e = absurd cc
-quoted_sound (b ∷ bs) len e = quoted_first b bs len (b == quote_mark) refl e
+quoted_sound text len e = grind (arith, quoted_first)
 
 pub quoted_again : (front rest : List ℕ) → IsQuoted front → quoted_from (front ++ rest) ≡ Some (length front)
-quoted_again front rest h =
-    let s = h.second in
-    let inner : List ℕ = s.front in
-    let back : List ℕ = quote_mark ∷ rest in
-    let whole : front ≡ quote_mark ∷ (inner ++ quote_mark ∷ []) = h.split ∙ ap (λ (x : List ℕ). x ++ h.back) h.first ∙ ap (λ (x : List ℕ). quote_mark ∷ x) (s.split ∙ ap (λ (x : List ℕ). inner ++ x) s.second) in
-    let len : length front ≡ length inner + 2 = omega (arith, ap length whole, length-append inner (quote_mark ∷ [])) in
-    let n : run_len is_quotable (inner ++ back) ≡ length inner = run_again is_quotable inner back s.first refl in
-    let at : front ++ rest ≡ quote_mark ∷ (inner ++ back) = ap (λ (x : List ℕ). x ++ rest) whole ∙ ap (λ (x : List ℕ). quote_mark ∷ x) (append_assoc inner (quote_mark ∷ []) rest) in
-    let left : drop (length inner) (inner ++ back) ≡ back = drop_at inner back (length inner) refl in
-    let one : quoted_from (quote_mark ∷ (inner ++ back)) ≡ Some (length inner + 2) = rw (n, left) refl in
-    ap quoted_from at ∙ one ∙ ap (λ (x : ℕ). Some x) (sym len)
+quoted_again front rest h = grind (arith, append_assoc, drop_at, length-append, run_again)
 
 span_took : (text span rest : List ℕ) (o : Option ℕ) → quoted_from text ≡ o → span_found text o ≡ Ok (span, rest) → (text ≡ span ++ rest) × IsQuoted span
-span_took text span rest None is e = absurd cc
-span_took text span rest (Some len) is e =
-    let q = quoted_sound text len is in
-    let got : ◌≡◌ {A = List ℕ × List ℕ} (take len text, drop len text) (span, rest) = cc in
-    let span-is : take len text ≡ span = ap (λ (p : List ℕ × List ℕ). p.0) got in
-    let rest-is : drop len text ≡ rest = ap (λ (p : List ℕ × List ℕ). p.1) got in
-    let front-is : take len text ≡ q.0 = ap (take len) q.2 ∙ take_at q.0 q.1 len (sym q.3) in
-    (sym (take-append-drop len text) ∙ ap (λ (x : List ℕ). x ++ drop len text) span-is ∙ ap (λ (x : List ℕ). span ++ x) rest-is, subst IsQuoted (sym front-is ∙ span-is) q.4)
+span_took text span rest o is e = grind (arith, quoted_sound, take-append-drop, take_at)
 
 pub quoted_took : (text span rest : List ℕ) → quoted_at text ≡ Ok (span, rest) → (text ≡ span ++ rest) × IsQuoted span
 unfolding quoted_at quoted_len
@@ -173,21 +141,11 @@ quoted_took text span rest e = span_took text span rest (quoted_len text) refl e
 
 pub quoted_again_at : (span rest : List ℕ) → IsQuoted span → quoted_at (span ++ rest) ≡ Ok (span, rest)
 unfolding quoted_at quoted_len
-quoted_again_at span rest h =
-    ap (span_found (span ++ rest)) (quoted_again span rest h) ∙ rw (take_at span rest (length span) refl, drop_at span rest (length span) refl) refl
-
-span_fault : (text : List ℕ) (o : Option ℕ) (f : ScanFault) → span_found text o ≡ Err f → f ≡ Unexpected
-span_fault text None f e = cc
-span_fault text (Some len) f e = absurd cc
+quoted_again_at span rest h = grind (arith, quoted_again, drop_at, take_at)
 
 pub no_quoted : (text : List ℕ) (f : ScanFault) → quoted_at text ≡ Err f → (f ≡ Unexpected) × ((before after : List ℕ) → text ≡ before ++ after → ¬ IsQuoted before)
 unfolding quoted_at
-no_quoted text f e = (
-  span_fault text (quoted_len text) f e,
-  λ before after split h.
-      let clash : ◌≡◌ {A = Result (List ℕ × List ℕ) ScanFault} (Err f) (Ok (before, after)) = sym e ∙ ap quoted_at split ∙ quoted_again_at before after h in
-      absurd cc,
-)
+no_quoted text f e = grind (arith, quoted_again_at)
 
 -- a quoted text, quotes and all
 pub up_quoted : ReadsUp quoted_read (λ span text. (span ≡ text) × IsQuoted text) Any Same Same

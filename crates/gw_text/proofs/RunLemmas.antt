@@ -1,10 +1,12 @@
 -- The lengths of runs, from one byte to the next.
-use Rattle.std.proofs.Common.{◌≡◌, ℕ, suc, ◌+◌, ◌<◌, Bool, true, false, cond, List, [], ◌∷◌, length, get_or, take, drop, ◌++◌, ◌≤◌, ◌*◌, ◌-◌, ◌&&◌, refl, ap, sym, ◌∙◌, arith, rules, add-one, drop-cons}
+use Rattle.std.proofs.Common.{◌≡◌, ℕ, suc, ◌+◌, ◌<◌, Bool, true, false, cond, List, [], ◌∷◌, length, get_or, take, drop, ◌++◌, ◌≤◌, ◌*◌, ◌-◌, ◌||◌, refl, arith, rules, add-one, drop-cons}
 use Rattle.std.specs.List.{list_all}
 use Rattle.std.specs.Str.Parse.{digits_value_after}
 use Rattle.std.specs.Char.{digit_value}
 use Rattle.std.specs.Int.{IsInRange}
 use Rattle.std.proofs.lemmas.Str.{digit_value_digit}
+use Rattle.std.proofs.lemmas.Bool.{and_parts}
+use Rattle.std.proofs.lemmas.List.{take_all}
 use Rattle.gw_base.specs.Bytes.{is_digit}
 use Rattle.gw_text.specs.Runs.{run_len, begins}
 
@@ -12,14 +14,16 @@ use Rattle.gw_text.specs.Runs.{run_len, begins}
 pub at_byte : (text : List ℕ) (i : ℕ) → i < length text → drop i text ≡ get_or text i 0 ∷ drop (i + 1) text
 at_byte text i h = rw (add-one, drop-cons text i 0) refl
 
-pub and_true : (a b : Bool) → a && b ≡ true → (a ≡ true) × (b ≡ true)
-and_true true b h = (refl, h)
-and_true false b h = absurd cc
+pub either : (P : Type 0) (a b : Bool) → a || b ≡ true → (a ≡ true → P) → (b ≡ true → P) → P
+either P a b h f g = grind arith
+
+-- what is behind the first byte
+pub whole_tail : (b : ℕ) (bs : List ℕ) → take (length (b ∷ bs) - 1) (drop 1 (b ∷ bs)) ≡ bs
+whole_tail b bs = take_all (length (b ∷ bs) - 1) bs (omega arith)
 
 -- what a run is made of
 run_is_step : (p : ℕ → Bool) (b : ℕ) (bs : List ℕ) (t : Bool) → p b ≡ t → list_all p (take (run_len p bs) bs) ≡ true → list_all p (take (cond t (suc (run_len p bs)) 0) (b ∷ bs)) ≡ true
-run_is_step p b bs true is all = rw is all
-run_is_step p b bs false is all = refl
+run_is_step p b bs t is all = grind arith
 
 pub run_is : (p : ℕ → Bool) (text : List ℕ) → list_all p (take (run_len p text) text) ≡ true
 run_is p [] = refl
@@ -30,7 +34,7 @@ pub run_again : (p : ℕ → Bool) (front rest : List ℕ) → list_all p front 
 run_again p [] [] all ends = refl
 run_again p [] (b ∷ bs) all ends = rw ends refl
 run_again p (b ∷ bs) rest all ends =
-    let h = and_true (p b) (list_all p bs) all in
+    let h = and_parts (p b) (list_all p bs) all in
     let e : run_len p (bs ++ rest) ≡ length bs = run_again p bs rest h.1 ends in
     rw (h.0, e) refl
 
@@ -38,7 +42,7 @@ run_again p (b ∷ bs) rest all ends =
 pub run_longest : (p : ℕ → Bool) (other left : List ℕ) → list_all p other ≡ true → length other ≤ run_len p (other ++ left)
 run_longest p [] left all = omega arith
 run_longest p (b ∷ bs) left all =
-    let h = and_true (p b) (list_all p bs) all in
+    let h = and_parts (p b) (list_all p bs) all in
     let le = run_longest p bs left h.1 in
     rw h.0 (omega arith)
 
@@ -53,19 +57,10 @@ digit_range b e = search rules
 -- the number with the next digit
 pub next_digit : (digits : List ℕ) (i number total : ℕ) → i < length digits → is_digit (get_or digits i 0) ≡ true → digits_value_after 10 number (drop i digits) ≡ total
     → digits_value_after 10 (number * 10 + (get_or digits i 0 - 48)) (drop (i + 1) digits) ≡ total
-next_digit digits i number total h is so_far =
-    let value = digit_value_digit (get_or digits i 0) (digit_range (get_or digits i 0) is) in
-    let digit : get_or digits i 0 - 48 ≡ digit_value (get_or digits i 0) = omega (arith, value) in
-    ap (λ (d : ℕ). digits_value_after 10 (number * 10 + d) (drop (i + 1) digits)) digit
-    ∙ sym (ap (digits_value_after 10 number) (at_byte digits i h))
-    ∙ so_far
-
-pub all_from : (p : ℕ → Bool) (text : List ℕ) (i : ℕ) → i < length text → list_all p (drop i text) ≡ true → (p (get_or text i 0) ≡ true) × (list_all p (drop (i + 1) text) ≡ true)
-all_from p text i h all = and_true (p (get_or text i 0)) (list_all p (drop (i + 1) text)) (rw at_byte at all)
+next_digit digits i number total h is so_far = grind (arith, at_byte, digit_range, digit_value_digit)
 
 run_le_step : (t : Bool) (n m : ℕ) → n ≤ m → cond t (suc n) 0 ≤ suc m
-run_le_step true n m le = omega arith
-run_le_step false n m le = omega arith
+run_le_step t n m le = grind arith
 
 pub run_len-le : (p : ℕ → Bool) (text : List ℕ) → run_len p text ≤ length text
 run_len-le p [] = omega arith

@@ -1,11 +1,11 @@
 -- Bytes, signs with white space on both sides, and bytes in any case: what is behind them.
-use Rattle.std.proofs.Common.{◌≡◌, ℕ, ◌<◌, Bool, true, false, cond, not, ◌==◌, List, [], ◌∷◌, ◌++◌, map, length, take, drop, Some, None, refl, ap, sym, ◌∙◌, append_assoc, length-append, arith}
-use Rattle.std.specs.Prelude.{bytes_eq, MatchBool}
+use Rattle.std.proofs.Common.{◌≡◌, ℕ, ◌<◌, Bool, true, false, ◌==◌, List, [], ◌∷◌, ◌++◌, length, Some, None, refl, ap, sym, ◌∙◌, append_assoc, length-append, arith}
+use Rattle.std.specs.Prelude.{MatchBool}
 use Rattle.std.specs.Bool.{OnTrue, OnFalse}
 use Rattle.std.specs.Char.{to_ascii_lowercase}
 use Rattle.std.proofs.lemmas.List.{take-append-drop, take_at, drop_at, length-map}
 use Rattle.std.proofs.lemmas.Slice.Eq.{bytes_eq-Decides}
-use Rattle.std.proofs.lemmas.Bool.{eqb-true}
+use Rattle.std.proofs.lemmas.Bool.{not-true}
 use Rattle.gw_text.specs.Lexical.{is_space_start, is_solid}
 use Rattle.gw_text.specs.Space.{IsSpace}
 use Rattle.gw_text.specs.SpaceScan.{skip}
@@ -13,7 +13,7 @@ use Rattle.gw_text.specs.Runs.{begins, is_byte}
 use Rattle.gw_text.specs.Longest.{IsLongest}
 use Rattle.gw_text.specs.Sign.{byte_at, behind, sign_at, prefix_at}
 use Rattle.gw_text.specs.Forms.{IsSign, IsInAnyCase}
-use Rattle.gw_text.proofs.Skips.{skip_space, skip_stays, skip_is, skip_skip, skip_len, space_first}
+use Rattle.gw_text.proofs.Skips.{skip_space, skip_stays, skip_is, skip_len, space_first}
 
 pub some_is : {A : Type 0} (x y : A) → Some x ≡ Some y → x ≡ y
 some_is x y e = cc
@@ -23,14 +23,9 @@ same_byte b = grind arith
 
 -- ---- one byte
 
-byte_step : (t : Bool) (b c : ℕ) (cs rest : List ℕ) → (t ≡ true → c ≡ b) → cond t (Some cs) None ≡ Some rest → c ∷ cs ≡ b ∷ rest
-byte_step true b c cs rest h e = ap (λ (x : ℕ). x ∷ cs) (h refl) ∙ ap (λ (x : List ℕ). b ∷ x) (some_is cs rest e)
-byte_step false b c cs rest h e = absurd cc
-
 pub byte_sound : (b : ℕ) (text rest : List ℕ) → byte_at b text ≡ Some rest → text ≡ b ∷ rest
 unfolding byte_at
-byte_sound b [] rest e = absurd cc
-byte_sound b (c ∷ cs) rest e = byte_step (c == b) b c cs rest (λ h. eqb-true c b h) e
+byte_sound b text rest e = grind arith
 
 pub byte_again : (b : ℕ) (rest : List ℕ) → byte_at b (b ∷ rest) ≡ Some rest
 unfolding byte_at
@@ -43,13 +38,8 @@ pub sign_from : (b : ℕ) (start text : List ℕ) → skip start ≡ skip text �
 unfolding sign_at
 sign_from b start text h = ap (behind b) h
 
-behind_step : (t : Bool) (b c : ℕ) (cs rest : List ℕ) → (t ≡ true → c ≡ b) → cond t (Some (skip cs)) None ≡ Some rest → (more : List ℕ) × (c ∷ cs ≡ b ∷ more) × (skip more ≡ rest)
-behind_step true b c cs rest h e = (cs, ap (λ (x : ℕ). x ∷ cs) (h refl), some_is (skip cs) rest e)
-behind_step false b c cs rest h e = absurd cc
-
 behind_sound : (b : ℕ) (text rest : List ℕ) → behind b text ≡ Some rest → (more : List ℕ) × (text ≡ b ∷ more) × (skip more ≡ rest)
-behind_sound b [] rest e = absurd cc
-behind_sound b (c ∷ cs) rest e = behind_step (c == b) b c cs rest (λ h. eqb-true c b h) e
+behind_sound b text rest e = grind arith
 
 pub sign_sound : (b : ℕ) (text rest : List ℕ) → sign_at b text ≡ Some rest → (front : List ℕ) × (text ≡ front ++ rest) × IsSign b front
 unfolding sign_at
@@ -63,18 +53,9 @@ sign_sound b text rest e =
       record { front = h.front; back = b ∷ t.front; split = refl; first = h.first; second = record { front = b ∷ []; back = t.front; split = refl; first = refl; second = t.first } },
     )
 
--- what is left behind a sign has no white space at its front
-pub sign_skips : (b : ℕ) (text rest : List ℕ) → sign_at b text ≡ Some rest → skip rest ≡ rest
-unfolding sign_at
-sign_skips b text rest e =
-    let s = behind_sound b (skip text) rest e in
-    ap skip (sym s.2) ∙ skip_skip s.0 ∙ s.2
-
 -- the text of a sign, and what follows
 sign_split : (b : ℕ) (front rest : List ℕ) (h : IsSign b front) → front ++ rest ≡ h.front ++ (b ∷ (h.second.back ++ rest))
-sign_split b front rest h =
-    let inner : h.back ≡ b ∷ h.second.back = h.second.split ∙ ap (λ (x : List ℕ). x ++ h.second.back) h.second.first in
-    ap (λ (x : List ℕ). x ++ rest) (h.split ∙ ap (λ (x : List ℕ). h.front ++ x) inner) ∙ append_assoc h.front (b ∷ h.second.back) rest
+sign_split b front rest h = grind (arith, append_assoc)
 
 skip_sign : (b : ℕ) (front rest : List ℕ) (h : IsSign b front) → is_space_start b ≡ false → skip (front ++ rest) ≡ b ∷ (h.second.back ++ rest)
 skip_sign b front rest h solid = ap skip (sign_split b front rest h) ∙ skip_space h.front (b ∷ (h.second.back ++ rest)) h.first ∙ skip_stays (b ∷ (h.second.back ++ rest)) solid
@@ -115,42 +96,26 @@ pub sign_len : (b : ℕ) (front : List ℕ) → IsSign b front → 0 < length fr
 sign_len b front h = omega (arith, ap length h.split, length-append h.front h.back, ap length h.second.split, length-append h.second.front h.second.back, ap length h.second.first)
 
 pub sign_shrinks : (b : ℕ) (text rest : List ℕ) → sign_at b text ≡ Some rest → length rest < length text
-sign_shrinks b text rest e =
-    let s = sign_sound b text rest e in
-    omega (arith, ap length s.1, length-append s.0 rest, sign_len b s.0 s.2)
+sign_shrinks b text rest e = grind (arith, sign_sound, sign_len, length-append)
 
 -- ---- bytes in any case
 
-prefix_step : (t : Bool) (xs ys : List ℕ) → cond t (Some xs) None ≡ Some ys → (t ≡ true) × (xs ≡ ys)
-prefix_step true xs ys e = (refl, some_is xs ys e)
-prefix_step false xs ys e = absurd cc
-
 pub prefix_sound : (bytes text rest : List ℕ) → prefix_at bytes text ≡ Some rest → (front : List ℕ) × (text ≡ front ++ rest) × IsInAnyCase bytes front
 unfolding prefix_at
-prefix_sound bytes text rest e =
-    let n = length bytes in
-    let s = prefix_step (bytes_eq (map to_ascii_lowercase (take n text)) (map to_ascii_lowercase bytes)) (drop n text) rest e in
-    (take n text, sym (take-append-drop n text) ∙ ap (λ (x : List ℕ). take n text ++ x) s.1, (bytes_eq-Decides (map to_ascii_lowercase (take n text)) (map to_ascii_lowercase bytes)).0 s.0)
+prefix_sound bytes text rest e = grind (arith, bytes_eq-Decides, take-append-drop)
 
 case_len : (bytes front : List ℕ) → IsInAnyCase bytes front → length front ≡ length bytes
 case_len bytes front h = sym (length-map front to_ascii_lowercase) ∙ ap length h ∙ length-map bytes to_ascii_lowercase
 
 pub prefix_again : (bytes front rest : List ℕ) → IsInAnyCase bytes front → prefix_at bytes (front ++ rest) ≡ Some rest
 unfolding prefix_at
-prefix_again bytes front rest h =
-    let len = case_len bytes front h in
-    let same = (bytes_eq-Decides (map to_ascii_lowercase front) (map to_ascii_lowercase bytes)).1 h in
-    rw (← len, take_at front rest (length front) refl, drop_at front rest (length front) refl, same) refl
+prefix_again bytes front rest h = grind (arith, case_len, bytes_eq-Decides, drop_at, take_at)
 
 -- bytes letter for letter
 pub exact_again : (bytes text rest : List ℕ) → text ≡ bytes ++ rest → prefix_at bytes text ≡ Some rest
 exact_again bytes text rest e = ap (prefix_at bytes) e ∙ prefix_again bytes bytes rest refl
 
 -- ---- what is there, and what is not
-
-solid_not : (t : Bool) → not t ≡ true → t ≡ false
-solid_not true h = absurd cc
-solid_not false h = refl
 
 -- the sign that is taken is the longest
 pub sign_longest : (b : ℕ) (text rest : List ℕ) → sign_at b text ≡ Some rest → is_solid b ≡ true → (span : List ℕ) × IsLongest (IsSign b) text span rest
@@ -161,46 +126,24 @@ sign_longest b text rest e solid =
         split = s.1;
         inside = s.2;
         longest = λ other left split sign.
-            let again : sign_at b text ≡ Some (skip left) = ap (sign_at b) split ∙ sign_again b other left (solid_not (is_space_start b) solid) sign in
+            let again : sign_at b text ≡ Some (skip left) = ap (sign_at b) split ∙ sign_again b other left (not-true (is_space_start b) solid) sign in
             let same : rest ≡ skip left = some_is rest (skip left) (sym e ∙ again) in
             omega (arith, ap length s.1, length-append s.0 rest, ap length split, length-append other left, ap length same, skip_len left);
       },
     )
 
-pub sign_missing : (b : ℕ) (text : List ℕ) → sign_at b text ≡ None → is_solid b ≡ true → (before after : List ℕ) → text ≡ before ++ after → ¬ IsSign b before
-sign_missing b text e solid before after split sign =
-    let again : None ≡ Some (skip after) = sym e ∙ ap (sign_at b) split ∙ sign_again b before after (solid_not (is_space_start b) solid) sign in
-    absurd cc
-
-not_there : (t : Bool) (xs : List ℕ) → cond t (Some xs) None ≡ None → t ≡ false
-not_there true xs e = absurd cc
-not_there false xs e = refl
-
 behind_none : (b : ℕ) (text : List ℕ) → behind b text ≡ None → begins (is_byte b) text ≡ false
-behind_none b [] e = refl
-behind_none b (c ∷ cs) e = not_there (c == b) (skip cs) e
+behind_none b text e = grind arith
 
 -- behind the white space the byte b does not come next, where there is no sign b
 pub sign_none : (b : ℕ) (text : List ℕ) → sign_at b text ≡ None → begins (is_byte b) (skip text) ≡ false
 unfolding sign_at
 sign_none b text e = behind_none b (skip text) e
 
-pub byte_missing : (b : ℕ) (text : List ℕ) → byte_at b text ≡ None → begins (is_byte b) text ≡ false
-unfolding byte_at
-byte_missing b [] e = refl
-byte_missing b (c ∷ cs) e = not_there (c == b) cs e
-
-pub prefix_missing : (bytes text : List ℕ) → prefix_at bytes text ≡ None → (before after : List ℕ) → text ≡ before ++ after → ¬ IsInAnyCase bytes before
-prefix_missing bytes text e before after split same =
-    let again : None ≡ Some after = sym e ∙ ap (prefix_at bytes) split ∙ prefix_again bytes before after same in
-    absurd cc
-
 -- ---- as a scan answers
 
 pub sign_took : (r : Bool) (b : ℕ) (old new : List ℕ) → MatchBool r (sign_at b old ≡ Some new) ((sign_at b old ≡ None) × (new ≡ old)) → OnTrue r (is_solid b ≡ true → (span : List ℕ) × IsLongest (IsSign b) old span new)
-sign_took true b old new e = sign_longest b old new e
-sign_took false b old new e = tt
+sign_took r b old new e = grind (arith, sign_longest)
 
 pub sign_missed : (r : Bool) (b : ℕ) (old new : List ℕ) → MatchBool r (sign_at b old ≡ Some new) ((sign_at b old ≡ None) × (new ≡ old)) → OnFalse r (is_solid b ≡ true → (before after : List ℕ) → old ≡ before ++ after → ¬ IsSign b before)
-sign_missed true b old new e = tt
-sign_missed false b old new e = sign_missing b old e.0
+sign_missed r b old new e = grind (arith, sign_again, not-true)

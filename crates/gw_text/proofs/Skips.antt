@@ -1,5 +1,5 @@
 -- What is behind white space.
-use Rattle.std.proofs.Common.{◌≡◌, ℕ, suc, ◌+◌, ◌≤◌, Bool, true, false, cond, not, ◌==◌, ◌||◌, ◌&&◌, List, [], ◌∷◌, ◌++◌, length, take, drop, refl, ap, sym, ◌∙◌, length-append, arith}
+use Rattle.std.proofs.Common.{◌≡◌, ℕ, suc, ◌+◌, ◌≤◌, Bool, true, false, cond, ◌==◌, ◌||◌, ◌&&◌, List, [], ◌∷◌, ◌++◌, length, take, drop, refl, ap, sym, ◌∙◌, length-append, arith}
 use Rattle.std.proofs.lemmas.List.{take-append-drop}
 use Rattle.std.proofs.Math.Seq.{drop-append-add}
 use Rattle.gw_base.specs.Lang.{Both}
@@ -7,41 +7,9 @@ use Rattle.gw_text.specs.Lexical.{nul, semicolon, is_blank, is_eol, is_space_sta
 use Rattle.gw_text.specs.Space.{IsSpace}
 use Rattle.gw_text.specs.SpaceScan.{space_len_from, space_len, skip}
 use Rattle.gw_text.specs.Runs.{begins}
-use Rattle.gw_text.proofs.SpaceLemmas.{is_space, space_again, space_is}
+use Rattle.gw_text.proofs.SpaceLemmas.{is_space, space_again, space_is, out_step, in_step}
 use Rattle.gw_text.proofs.SpacePieces.{space_scans, space_pieces}
-
-shift_step : (w c : Bool) (n lb lc kb kc best : ℕ) → lb ≡ n + kb → lc ≡ n + kc → cond w lb (cond c lc (n + best)) ≡ n + cond w kb (cond c kc best)
-shift_step true c n lb lc kb kc best p q = p
-shift_step false true n lb lc kb kc best p q = q
-shift_step false false n lb lc kb kc best p q = refl
-
-shift_in : (w c : Bool) (n lb lc kb kc best : ℕ) → lb ≡ n + kb → lc ≡ n + kc → cond w lb (cond c (n + best) lc) ≡ n + cond w kb (cond c best kc)
-shift_in true c n lb lc kb kc best p q = p
-shift_in false false n lb lc kb kc best p q = q
-shift_in false true n lb lc kb kc best p q = refl
-
-out_all : (w c rb rc : Bool) (lb lc best total : ℕ) → cond w rb (c && rc) ≡ true → (rb ≡ true → lb ≡ total) → (rc ≡ true → lc ≡ total) → cond w lb (cond c lc best) ≡ total
-out_all true c rb rc lb lc best total h f g = f h
-out_all false true rb rc lb lc best total h f g = g h
-out_all false false rb rc lb lc best total h f g = absurd cc
-
-in_all : (e z rb rc : Bool) (lb lc best total : ℕ) → cond e rb (not z && rc) ≡ true → (rb ≡ true → lb ≡ total) → (rc ≡ true → lc ≡ total) → cond e lb (cond z best lc) ≡ total
-in_all true z rb rc lb lc best total h f g = f h
-in_all false false rb rc lb lc best total h f g = g h
-in_all false true rb rc lb lc best total h f g = absurd cc
-
-shift : (inside : Bool) (n passed best : ℕ) (bs : List ℕ) → space_len_from inside (n + passed) (n + best) bs ≡ n + space_len_from inside passed best bs
-shift inside n passed best [] = refl
-shift false n passed best (b ∷ bs) =
-    let e : n + passed + 1 ≡ n + (passed + 1) = omega arith in
-    let blank : space_len_from false (n + passed + 1) (n + passed + 1) bs ≡ n + space_len_from false (passed + 1) (passed + 1) bs = rw e (shift false n (passed + 1) (passed + 1) bs) in
-    let comment : space_len_from true (n + passed + 1) (n + best) bs ≡ n + space_len_from true (passed + 1) best bs = rw e (shift true n (passed + 1) best bs) in
-    shift_step (is_blank b) (b == semicolon) n _ _ _ _ best blank comment
-shift true n passed best (b ∷ bs) =
-    let e : n + passed + 1 ≡ n + (passed + 1) = omega arith in
-    let blank : space_len_from false (n + passed + 1) (n + passed + 1) bs ≡ n + space_len_from false (passed + 1) (passed + 1) bs = rw e (shift false n (passed + 1) (passed + 1) bs) in
-    let comment : space_len_from true (n + passed + 1) (n + best) bs ≡ n + space_len_from true (passed + 1) best bs = rw e (shift true n (passed + 1) best bs) in
-    shift_in (is_eol b) (b == nul) n _ _ _ _ best blank comment
+use Rattle.gw_text.proofs.SpaceParts.{further}
 
 over_from : (inside : Bool) (passed best : ℕ) (front rest : List ℕ) → is_space inside front ≡ true → (inside ≡ false → best ≡ passed) → space_len_from inside passed best (front ++ rest) ≡ space_len_from false (passed + length front) (passed + length front) rest
 over_from true passed best [] rest scanned so_far = absurd cc
@@ -50,12 +18,12 @@ over_from false passed best [] rest scanned so_far =
     rw (e, so_far refl) refl
 over_from false passed best (b ∷ bs) rest scanned so_far =
     let e : passed + suc (length bs) ≡ passed + 1 + length bs = omega arith in
-    rw e (out_all (is_blank b) (b == semicolon) (is_space false bs) (is_space true bs) _ _ best _ scanned
+    rw e (out_step (is_blank b) (b == semicolon) (is_space false bs) (is_space true bs) _ _ best _ scanned
     (λ h. over_from false (passed + 1) (passed + 1) bs rest h (λ _. refl))
     (λ h. over_from true (passed + 1) best bs rest h (λ e. absurd cc)))
 over_from true passed best (b ∷ bs) rest scanned so_far =
     let e : passed + suc (length bs) ≡ passed + 1 + length bs = omega arith in
-    rw e (in_all (is_eol b) (b == nul) (is_space false bs) (is_space true bs) _ _ best _ scanned
+    rw e (in_step (is_eol b) (b == nul) (is_space false bs) (is_space true bs) _ _ best _ scanned
     (λ h. over_from false (passed + 1) (passed + 1) bs rest h (λ _. refl))
     (λ h. over_from true (passed + 1) best bs rest h (λ e. absurd cc)))
 
@@ -63,9 +31,8 @@ pub space_len-append : (front rest : List ℕ) → IsSpace front → space_len (
 unfolding space_len
 space_len-append front rest h =
     let n = length front in
-    let e : n + 0 ≡ n = omega arith in
     let z : 0 + n ≡ n = omega arith in
-    let s : space_len_from false n n rest ≡ n + space_len_from false 0 0 rest = rw e at (shift false n 0 0 rest) in
+    let s : space_len_from false n n rest ≡ n + space_len_from false 0 0 rest = further n false 0 0 n n rest (omega arith) (omega arith) in
     over_from false 0 0 front rest (space_scans front h) (λ _. refl) ∙ rw z s
 
 -- no white space is the empty one
@@ -93,9 +60,7 @@ skip_skip text =
     ap skip (sym h.second) ∙ sym (ap skip h.split ∙ skip_space h.front h.back h.first)
 
 start_of : (w c rb rc : Bool) → cond w rb (c && rc) ≡ true → w || c ≡ true
-start_of true c rb rc h = refl
-start_of false true rb rc h = refl
-start_of false false rb rc h = absurd cc
+start_of w c rb rc h = grind arith
 
 -- what white space begins with
 pub space_first : (c : ℕ) (cs : List ℕ) → IsSpace (c ∷ cs) → is_space_start c ≡ true

@@ -1,6 +1,7 @@
 -- The white space at the front of a text is the longest that there is.
-use Rattle.std.proofs.Common.{◌≡◌, ℕ, ◌+◌, ◌≤◌, Bool, true, false, cond, not, ◌&&◌, ◌||◌, ◌==◌, List, [], ◌∷◌, ◌++◌, length, take, refl, ap, sym, ◌∙◌, append_assoc, length-append, arith}
+use Rattle.std.proofs.Common.{◌≡◌, ℕ, ◌+◌, ◌≤◌, Bool, true, false, cond, not, ◌&&◌, ◌==◌, List, [], ◌∷◌, ◌++◌, length, take, refl, ap, sym, ◌∙◌, append_assoc, length-append, arith}
 use Rattle.std.proofs.lemmas.List.{append-nil, take_at}
+use Rattle.std.proofs.lemmas.Bool.{or_parts}
 use Rattle.gw_text.specs.Lexical.{nul, semicolon, is_blank, is_eol, is_space_start}
 use Rattle.gw_text.specs.SpaceScan.{space_len_from, space_len}
 use Rattle.gw_text.specs.Runs.{begins}
@@ -12,19 +13,11 @@ is_space true [] = false
 is_space false (b ∷ bs) = cond (is_blank b) (is_space false bs) (b == semicolon && is_space true bs)
 is_space true (b ∷ bs) = cond (is_eol b) (is_space false bs) (not (b == nul) && is_space true bs)
 
-or_false : (a b : Bool) → a || b ≡ false → (a ≡ false) × (b ≡ false)
-or_false false b h = (refl, h)
-or_false true b h = absurd cc
+pub out_step : (w c rb rc : Bool) (lb lc best total : ℕ) → cond w rb (c && rc) ≡ true → (rb ≡ true → lb ≡ total) → (rc ≡ true → lc ≡ total) → cond w lb (cond c lc best) ≡ total
+out_step w c rb rc lb lc best total h f g = grind arith
 
-out_step : (w c rb rc : Bool) (lb lc best total : ℕ) → cond w rb (c && rc) ≡ true → (rb ≡ true → lb ≡ total) → (rc ≡ true → lc ≡ total) → cond w lb (cond c lc best) ≡ total
-out_step true c rb rc lb lc best total h f g = f h
-out_step false true rb rc lb lc best total h f g = g h
-out_step false false rb rc lb lc best total h f g = absurd cc
-
-in_step : (e z rb rc : Bool) (lb lc best total : ℕ) → cond e rb (not z && rc) ≡ true → (rb ≡ true → lb ≡ total) → (rc ≡ true → lc ≡ total) → cond e lb (cond z best lc) ≡ total
-in_step true z rb rc lb lc best total h f g = f h
-in_step false false rb rc lb lc best total h f g = g h
-in_step false true rb rc lb lc best total h f g = absurd cc
+pub in_step : (e z rb rc : Bool) (lb lc best total : ℕ) → cond e rb (not z && rc) ≡ true → (rb ≡ true → lb ≡ total) → (rc ≡ true → lc ≡ total) → cond e lb (cond z best lc) ≡ total
+in_step e z rb rc lb lc best total h f g = grind arith
 
 -- ---- white space that nothing goes on with is found whole
 
@@ -32,7 +25,7 @@ again_from : (inside : Bool) (passed best : ℕ) (front rest : List ℕ) → is_
 again_from true passed best [] rest space so_far ends = absurd cc
 again_from false passed best [] [] space so_far ends = so_far refl ∙ omega arith
 again_from false passed best [] (b ∷ bs) space so_far ends =
-    let h = or_false (is_blank b) (b == semicolon) ends in
+    let h = or_parts (is_blank b) (b == semicolon) ends in
     rw (h.0, h.1) (so_far refl ∙ omega arith)
 again_from false passed best (b ∷ bs) rest space so_far ends =
     out_step (is_blank b) (b == semicolon) (is_space false bs) (is_space true bs) _ _ best _ space
@@ -60,14 +53,10 @@ here_is : (front bs : List ℕ) → GoesOn false front → is_space false (take 
 here_is front bs goes_on = ap (is_space false) (take_at front bs (length front) refl ∙ sym (append-nil front)) ∙ goes_on []
 
 pub choose : (P : ℕ → Type 0) (w c : Bool) (lb lc best : ℕ) → (w ≡ true → P lb) → (w ≡ false → c ≡ true → P lc) → (w ≡ false → c ≡ false → P best) → P (cond w lb (cond c lc best))
-choose P true c lb lc best f g h = f refl
-choose P false true lb lc best f g h = g refl refl
-choose P false false lb lc best f g h = h refl refl
+choose P w c lb lc best f g h = grind arith
 
 pub choose_in : (P : ℕ → Type 0) (e z : Bool) (lb lc best : ℕ) → (e ≡ true → P lb) → (e ≡ false → z ≡ true → P best) → (e ≡ false → z ≡ false → P lc) → P (cond e lb (cond z best lc))
-choose_in P true z lb lc best f g h = f refl
-choose_in P false true lb lc best f g h = g refl refl
-choose_in P false false lb lc best f g h = h refl refl
+choose_in P e z lb lc best f g h = grind arith
 
 sound_from : (inside : Bool) (front bs : List ℕ) (passed best : ℕ) → passed ≡ length front → GoesOn inside front → is_space false (take best (front ++ bs)) ≡ true → is_space false (take (space_len_from inside passed best bs) (front ++ bs)) ≡ true
 sound_from inside front [] passed best len goes_on so_far = so_far

@@ -1,22 +1,9 @@
 -- White space is blanks, then a comment and blanks, as often as one comes.
-use Rattle.std.proofs.Common.{◌≡◌, ℕ, zero, suc, ◌+◌, Bool, true, false, cond, not, ◌&&◌, ◌==◌, List, [], ◌∷◌, Option, Some, None, drop, refl, ap, sym, ◌∙◌, arith, drop-drop}
+use Rattle.std.proofs.Common.{◌≡◌, ℕ, zero, suc, ◌+◌, Bool, true, false, cond, ◌==◌, List, [], ◌∷◌, Option, Some, None, drop, refl, ap, sym, ◌∙◌, arith, drop-drop}
 use Rattle.std.proofs.lemmas.Bool.{eqb-true}
 use Rattle.gw_text.specs.Lexical.{nul, semicolon, is_blank, is_eol, is_comment_byte}
 use Rattle.gw_text.specs.Runs.{run_len, begins}
 use Rattle.gw_text.specs.SpaceScan.{space_len_from, space_len, ended_len, comment_len}
-use Rattle.gw_text.proofs.RunLemmas.{and_true}
-
-not_true : (b : Bool) → not b ≡ true → b ≡ false
-not_true false h = refl
-not_true true h = absurd cc
-
-not_false : (z : Bool) → not false && not z ≡ false → z ≡ true
-not_false true h = refl
-not_false false h = absurd cc
-
-none_is : (t : Bool) (n : ℕ) → ◌≡◌ {A = Option ℕ} (cond t (Some n) None) None → t ≡ false
-none_is false n h = refl
-none_is true n h = absurd cc
 
 some_is : (m n : ℕ) → ◌≡◌ {A = Option ℕ} (Some m) (Some n) → m ≡ n
 some_is m n h = search
@@ -27,11 +14,9 @@ two m = omega arith
 -- ---- what was passed is added
 
 added : (k : ℕ) (w c : Bool) (a b d a' b' d' : ℕ) → a' ≡ k + a → b' ≡ k + b → d' ≡ k + d → cond w a' (cond c b' d') ≡ k + cond w a (cond c b d)
-added k true c a b d a' b' d' f g h = f
-added k false true a b d a' b' d' f g h = g
-added k false false a b d a' b' d' f g h = h
+added k w c a b d a' b' d' f g h = grind arith
 
-further : (k : ℕ) (inside : Bool) (passed best passed' best' : ℕ) (bs : List ℕ) → passed' ≡ k + passed → best' ≡ k + best → space_len_from inside passed' best' bs ≡ k + space_len_from inside passed best bs
+pub further : (k : ℕ) (inside : Bool) (passed best passed' best' : ℕ) (bs : List ℕ) → passed' ≡ k + passed → best' ≡ k + best → space_len_from inside passed' best' bs ≡ k + space_len_from inside passed best bs
 further k inside passed best passed' best' [] p b = b
 further k false passed best passed' best' (x ∷ xs) p b =
     added k (is_blank x) (x == semicolon) _ _ best _ _ best'
@@ -48,8 +33,7 @@ further k true passed best passed' best' (x ∷ xs) p b =
 
 -- behind the bytes of a class none of them comes next
 ends_step : (p : ℕ → Bool) (b : ℕ) (bs : List ℕ) (t : Bool) → p b ≡ t → begins p (drop (run_len p bs) bs) ≡ false → begins p (drop (cond t (suc (run_len p bs)) 0) (b ∷ bs)) ≡ false
-ends_step p b bs true is ends = ends
-ends_step p b bs false is ends = is
+ends_step p b bs t is ends = grind arith
 
 pub run_ends : (p : ℕ → Bool) (text : List ℕ) → begins p (drop (run_len p text) text) ≡ false
 run_ends p [] = refl
@@ -73,18 +57,9 @@ drop_past zero bs more e h = rw h refl
 drop_past (suc n) [] more e h = absurd cc
 drop_past (suc n) (b ∷ bs) more e h = drop_past n bs more e h
 
-comment_in : (b : ℕ) → is_comment_byte b ≡ true → (is_eol b ≡ false) × (b == nul ≡ false)
-comment_in b h =
-    let k = and_true (not (is_eol b)) (not (b == nul)) h in
-    (not_true (is_eol b) k.0, not_true (b == nul) k.1)
-
 line_step : (b : ℕ) (bs : List ℕ) (n passed best : ℕ) (t : Bool) → is_comment_byte b ≡ t → space_len_from true (passed + 1) best bs ≡ space_len_from true (passed + 1 + n) best (drop n bs)
     → space_len_from true passed best (b ∷ bs) ≡ space_len_from true (passed + cond t (suc n) 0) best (drop (cond t (suc n) 0) (b ∷ bs))
-line_step b bs n passed best false is so_far = ap (λ (k : ℕ). space_len_from true k best (b ∷ bs)) (omega arith)
-line_step b bs n passed best true is so_far =
-    let in_line = comment_in b is in
-    let one : space_len_from true passed best (b ∷ bs) ≡ space_len_from true (passed + 1) best bs = rw (in_line.0, in_line.1) refl in
-    one ∙ so_far ∙ ap (λ (k : ℕ). space_len_from true k best (drop n bs)) (omega arith)
+line_step b bs n passed best t is so_far = grind arith
 
 pub past_line : (bs : List ℕ) (passed best : ℕ) → space_len_from true passed best bs ≡ space_len_from true (passed + run_len is_comment_byte bs) best (drop (run_len is_comment_byte bs) bs)
 past_line [] passed best = refl
@@ -100,47 +75,22 @@ at_eol m n b e bs more true ends is behind =
     let passed : space_len_from false (1 + m + 1) (1 + m + 1) more ≡ (m + 2) + space_len_from false 0 0 more = further (m + 2) false 0 0 (1 + m + 1) (1 + m + 1) more (omega arith) (omega arith) in
     rw (whole, rest, ends) (sym passed)
 
-at_end : (m n b : ℕ) (bs rest : List ℕ) → drop m bs ≡ rest → ended_len m rest ≡ Some n → n + space_len (drop n (b ∷ bs)) ≡ space_len_from true (1 + m) 0 rest
-at_end m n b bs [] behind is = absurd cc
-at_end m n b bs (e ∷ more) behind is = at_eol m n b e bs more (is_eol e) refl is behind
-
 not_ended : (m : ℕ) (rest : List ℕ) → begins is_comment_byte rest ≡ false → ended_len m rest ≡ None → space_len_from true (1 + m) 0 rest ≡ 0
-not_ended m [] ends is = refl
-not_ended m (e ∷ more) ends is =
-    let goes_on : is_eol e ≡ false = none_is (is_eol e) (m + 2) is in
-    let nothing : e == nul ≡ true = not_false (e == nul) (rw goes_on at ends) in
-    rw (goes_on, nothing) refl
+not_ended m rest ends is = grind arith
 
 -- white space that begins with the `;` of a comment, behind its line's bytes
 in_comment : (b : ℕ) (bs : List ℕ) → b == semicolon ≡ true → space_len (b ∷ bs) ≡ space_len_from true (1 + run_len is_comment_byte bs) 0 (drop (run_len is_comment_byte bs) bs)
 unfolding space_len
-in_comment b bs is =
-    let begun : space_len_from false 0 0 (b ∷ bs) ≡ space_len_from true 1 0 bs = rw (eqb-true b semicolon is) refl in
-    begun ∙ past_line bs 1 0
-
-comment_step : (b n : ℕ) (bs : List ℕ) (t : Bool) → b == semicolon ≡ t → cond t (ended_len (run_len is_comment_byte bs) (drop (run_len is_comment_byte bs) bs)) None ≡ Some n → n + space_len (drop n (b ∷ bs)) ≡ space_len (b ∷ bs)
-comment_step b n bs false begun is = absurd cc
-comment_step b n bs true begun is =
-    let m : ℕ = run_len is_comment_byte bs in
-    at_end m n b bs (drop m bs) refl is ∙ sym (in_comment b bs begun)
+in_comment b bs is = grind (arith, past_line, eqb-true)
 
 -- the white space goes on behind a comment
 pub past_comment : (text : List ℕ) (n : ℕ) → comment_len text ≡ Some n → n + space_len (drop n text) ≡ space_len text
-past_comment [] n is = absurd cc
-past_comment (b ∷ bs) n is = comment_step b n bs (b == semicolon) refl is
-
-none_step : (b : ℕ) (bs : List ℕ) (t : Bool) → is_blank b ≡ false → b == semicolon ≡ t → cond t (ended_len (run_len is_comment_byte bs) (drop (run_len is_comment_byte bs) bs)) None ≡ None → space_len (b ∷ bs) ≡ 0
-unfolding space_len
-none_step b bs false solid begun is = rw (solid, begun) refl
-none_step b bs true solid begun is =
-    let m : ℕ = run_len is_comment_byte bs in
-    in_comment b bs begun ∙ not_ended m (drop m bs) (run_ends is_comment_byte bs) is
+past_comment text n is = grind (arith, in_comment, at_eol)
 
 -- where neither a blank nor a comment comes next no white space does
 pub none_left : (text : List ℕ) → begins is_blank text ≡ false → comment_len text ≡ None → space_len text ≡ 0
 unfolding space_len
-none_left [] solid is = refl
-none_left (b ∷ bs) solid is = none_step b bs (b == semicolon) solid refl is
+none_left text solid is = grind (arith, run_ends, not_ended, in_comment)
 
 -- ---- one turn after another
 

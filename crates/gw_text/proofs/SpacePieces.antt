@@ -1,45 +1,26 @@
 -- White space as it is scanned is white space as the grammar has it.
-use Rattle.std.proofs.Common.{◌≡◌, inl, inr, ℕ, Bool, true, false, cond, not, ◌&&◌, ◌==◌, List, [], ◌∷◌, ◌++◌, refl, ap, sym, subst, ◌∙◌, append_assoc}
+use Rattle.std.proofs.Common.{◌≡◌, inl, inr, ℕ, Bool, true, false, cond, not, ◌&&◌, ◌==◌, List, [], ◌∷◌, ◌++◌, refl, ap, sym, subst, ◌∙◌, append_assoc, arith}
 use Rattle.std.specs.List.{concat, list_all}
-use Rattle.std.proofs.lemmas.Bool.{eqb-true}
+use Rattle.std.proofs.lemmas.Bool.{eqb-true, not-true, and_parts}
 use Rattle.gw_base.specs.Lang.{◌▹◌}
 use Rattle.gw_text.specs.Lexical.{nul, semicolon, is_blank, is_eol, is_comment_byte}
 use Rattle.gw_text.specs.Runs.{IsRun}
 use Rattle.gw_text.specs.Space.{IsByte, IsComment, IsSpacePiece, Each, IsSpace}
-use Rattle.gw_text.proofs.RunLemmas.{and_true}
 use Rattle.gw_text.proofs.SpaceLemmas.{is_space}
 
 -- ---- pieces are scanned
 
-not_true : (b : Bool) → not b ≡ true → b ≡ false
-not_true false h = refl
-not_true true h = absurd cc
-
-solid_semicolon : is_blank semicolon ≡ false
-solid_semicolon = refl
-
 comment_scanned : (inner more : List ℕ) (e : ℕ) → IsRun is_comment_byte inner → is_eol e ≡ true → is_space true (inner ++ (e ∷ more)) ≡ is_space false more
 comment_scanned [] more e run ends = rw ends refl
 comment_scanned (b ∷ bs) more e run ends =
-    let h = and_true (is_comment_byte b) (list_all is_comment_byte bs) run in
-    let k = and_true (not (is_eol b)) (not (b == nul)) h.0 in
-    let goes_on : is_eol b ≡ false = not_true (is_eol b) k.0 in
-    let some : b == nul ≡ false = not_true (b == nul) k.1 in
+    let h = and_parts (is_comment_byte b) (list_all is_comment_byte bs) run in
+    let k = and_parts (not (is_eol b)) (not (b == nul)) h.0 in
+    let goes_on : is_eol b ≡ false = not-true (is_eol b) k.0 in
+    let some : b == nul ≡ false = not-true (b == nul) k.1 in
     rw (goes_on, some) (comment_scanned bs more e h.1 ends)
 
 piece_scanned : (piece more : List ℕ) → IsSpacePiece piece → is_space false (piece ++ more) ≡ is_space false more
-piece_scanned piece more (inl p) =
-    let blank = p.2 in
-    let one : is_space false ((p.0 ∷ []) ++ more) ≡ is_space false more = rw blank refl in
-    ap (λ (x : List ℕ). is_space false (x ++ more)) p.1 ∙ one
-piece_scanned piece more (inr c) =
-    let s = c.second in
-    let e = s.second in
-    let whole : piece ++ more ≡ semicolon ∷ (s.front ++ (e.0 ∷ more)) =
-    ap (λ (x : List ℕ). x ++ more) (c.split ∙ ap (λ (x : List ℕ). x ++ c.back) c.first)
-    ∙ ap (λ (x : List ℕ). semicolon ∷ (x ++ more)) (s.split ∙ ap (λ (x : List ℕ). s.front ++ x) e.1)
-    ∙ ap (λ (x : List ℕ). semicolon ∷ x) (append_assoc s.front (e.0 ∷ []) more) in
-    ap (is_space false) whole ∙ comment_scanned s.front more e.0 s.first e.2
+piece_scanned piece more h = grind (arith, comment_scanned, append_assoc)
 
 pieces_scanned : (pieces : List (List ℕ)) → Each IsSpacePiece pieces → is_space false (concat pieces) ≡ true
 pieces_scanned [] each = refl
@@ -85,14 +66,10 @@ inner_more b bs is h =
     }
 
 out_cases : (P : Type 0) (w c rb rc : Bool) → cond w rb (c && rc) ≡ true → (w ≡ true → rb ≡ true → P) → (c ≡ true → rc ≡ true → P) → P
-out_cases P true c rb rc h f g = f refl h
-out_cases P false true rb rc h f g = g refl h
-out_cases P false false rb rc h f g = absurd cc
+out_cases P w c rb rc h f g = grind arith
 
 in_cases : (P : Type 0) (e z rb rc : Bool) → cond e rb (not z && rc) ≡ true → (e ≡ true → rb ≡ true → P) → (not e && not z ≡ true → rc ≡ true → P) → P
-in_cases P true z rb rc h f g = f refl h
-in_cases P false false rb rc h f g = g refl h
-in_cases P false true rb rc h f g = absurd cc
+in_cases P e z rb rc h f g = grind arith
 
 left_of : (inside : Bool) (text : List ℕ) → is_space inside text ≡ true → LeftOf inside text
 left_of false [] h = record { pieces = []; whole = refl; each = tt }

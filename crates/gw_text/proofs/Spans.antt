@@ -1,5 +1,5 @@
 -- Readers of groups, and what spans that are kept as sent begin with.
-use Rattle.std.proofs.Common.{◌≡◌, ℕ, true, List, ◌∷◌, ◌++◌, Some, Result, Ok, refl, ap, sym, ◌∙◌}
+use Rattle.std.proofs.Common.{◌≡◌, ℕ, true, List, ◌∷◌, ◌++◌, Some, Result, Ok, refl, ap, sym, ◌∙◌, arith}
 use Rattle.gw_text.specs.Lexical.{left_brace, right_brace, quote_mark}
 use Rattle.gw_text.specs.Runs.{begins, is_byte}
 use Rattle.gw_text.specs.Quoted.{IsQuoted}
@@ -30,9 +30,7 @@ pub quoted_begins : (text : List ℕ) → IsQuoted text → begins (is_byte quot
 quoted_begins text h = ap (begins (is_byte quote_mark)) (h.split ∙ ap (λ (x : List ℕ). x ++ h.back) h.first)
 
 span_is : (a b c d : List ℕ) → let r : Result (List ℕ × List ℕ) ScanFault = Ok (a, c) in r ≡ Ok (b, d) → a ≡ b
-span_is a b c d e =
-    let s : ◌≡◌ {A = List ℕ × List ℕ} (a, c) (b, d) = cc in
-    ap (λ (p : List ℕ × List ℕ). p.0) s
+span_is a b c d e = grind arith
 
 -- one group at most is at the front of a text
 pub one_group : (depth : ℕ) (text g h rest more : List ℕ) → text ≡ g ++ rest → text ≡ h ++ more → IsGroup depth g → IsGroup depth h → g ≡ h

@@ -8,7 +8,7 @@ use Rattle.gw_text.specs.Lexical.{is_safe}
 use Rattle.gw_text.specs.Runs.{begins, run_len}
 use Rattle.gw_text.proofs.RunLemmas.{run_again, run_len-le}
 use Rattle.gw_text.specs.Tokens.{is_spelling, find_token, token_of}
-use Rattle.gw_text.specs.TokenTable.{entries, IsForm, IsNext}
+use Rattle.gw_text.specs.TokenTable.{entries, IsNext}
 use Rattle.gw_text.specs.declared.token.Token.{Token}
 use Rattle.gw_text.specs.declared.token.Spelling as code
 
@@ -28,22 +28,13 @@ sent_as word text token l reads is = ap token_of (text_from_reads word text l re
 
 -- ---- the word that comes next
 
-pub is_form : (token : Token) (form : List ℕ) → 0 < length form → list_all is_safe form ≡ true → token_of form ≡ Some token → IsForm token form
-is_form token form some safe recognized = record { some = some; safe = safe; recognized = recognized }
-
-begins_read : (rest : List ℕ) → 0 < length rest → begins is_safe rest ≡ is_safe (get_or rest 0 0)
-begins_read [] h = absurd (omega arith)
-begins_read (b ∷ bs) h = refl
-
 -- the form is the word that comes next where no safe byte stands behind it
 next_is : (text form rest : List ℕ) → text ≡ form ++ rest → list_all is_safe form ≡ true → begins is_safe rest ≡ false → (take (length form) text ≡ form) × (run_len is_safe text ≡ length form)
 next_is text form rest e safe ends = rw e (take_at form rest (length form) refl, run_again is_safe form rest safe ends)
 
 -- as many bytes as the form has, one by one
 pub same_front : (text form : List ℕ) (i : ℕ) → i ≡ length form → take i text ≡ take i form → text ≡ form ++ drop (length form) text
-same_front text form i e same =
-    let front : take (length form) text ≡ form = ap (λ (n : ℕ). take n text) (sym e) ∙ same ∙ ap (λ (n : ℕ). take n form) e ∙ take_all (length form) form (omega arith) in
-    sym (take-append-drop (length form) text) ∙ ap (λ (x : List ℕ). x ++ drop (length form) text) front
+same_front text form i e same = grind (arith, take-append-drop, take_all)
 
 -- all that is behind the first n
 pub whole_rest : (text : List ℕ) (n : ℕ) → take (length text - n) (drop n text) ≡ drop n text
@@ -55,8 +46,7 @@ next_at_end text form (b ∷ bs) e safe h = absurd (omega arith)
 
 pub next_before : (text form rest : List ℕ) (safe_next : Bool) → text ≡ form ++ rest → list_all is_safe form ≡ true → 0 < length rest → safe_next ≡ is_safe (get_or rest 0 0)
     → OnTrue (not safe_next) ((take (length form) text ≡ form) × (run_len is_safe text ≡ length form))
-next_before text form rest true e safe h is = tt
-next_before text form rest false e safe h is = next_is text form rest e safe (begins_read rest h ∙ sym is)
+next_before text form rest safe_next e safe h is = grind (arith, next_is)
 
 pub next_within : (token : Token) (len : ℕ) (text : List ℕ) → IsNext token len text → len ≤ length text
 next_within token len text next = omega (arith, next.word, run_len-le is_safe text)

@@ -1,10 +1,11 @@
 -- Each entry of the table of tokens reads back.
-use Rattle.std.proofs.Common.{◌≡◌, ℕ, Bool, true, false, cond, ◌||◌, List, [], ◌∷◌, map, Option, Some, None, refl, ap, ◌∙◌}
+use Rattle.std.proofs.Common.{◌≡◌, ℕ, cond, ◌||◌, List, [], ◌∷◌, map, Option, Some, None, refl, arith}
 use Rattle.std.specs.Prelude.{bytes_eq}
 use Rattle.std.specs.Char.{to_ascii_lowercase}
 use Rattle.std.proofs.lemmas.Slice.Eq.{bytes_eq-Decides}
 use Rattle.gw_text.specs.Tokens.{Spelling, table, is_spelling, find_token, token_of, ReadsBack, AllReadBack}
 use Rattle.gw_text.specs.declared.token.Token.{Token}
+use Rattle.gw_text.proofs.RunLemmas.{either}
 
 -- the token of a word in lower case
 abbrev find_lower : List ℕ → List Spelling → Option Token
@@ -13,21 +14,11 @@ find_lower lower (s ∷ rest) = cond (bytes_eq lower (map to_ascii_lowercase s.l
 
 find_is : (word : List ℕ) (entries : List Spelling) → find_token word entries ≡ find_lower (map to_ascii_lowercase word) entries
 unfolding is_spelling
-find_is word [] = refl
-find_is word (s ∷ rest) = ap (cond (bytes_eq (map to_ascii_lowercase word) (map to_ascii_lowercase s.long) || bytes_eq (map to_ascii_lowercase word) (map to_ascii_lowercase s.short)) (Some s.token)) (find_is word rest)
-
-either : (P : Type 0) (a b : Bool) → a || b ≡ true → (a ≡ true → P) → (b ≡ true → P) → P
-either P true b h f g = f refl
-either P false b h f g = g h
+find_is word entries = grind arith
 
 reads_back : (s : Spelling) → find_lower (map to_ascii_lowercase s.long) table ≡ Some s.token → find_lower (map to_ascii_lowercase s.short) table ≡ Some s.token → ReadsBack s
 unfolding is_spelling token_of
-reads_back s long short word is =
-    let lower : List ℕ = map to_ascii_lowercase word in
-    find_is word table
-    ∙ either (find_lower lower table ≡ Some s.token) (bytes_eq lower (map to_ascii_lowercase s.long)) (bytes_eq lower (map to_ascii_lowercase s.short)) is
-    (λ h. ap (λ (x : List ℕ). find_lower x table) ((bytes_eq-Decides lower (map to_ascii_lowercase s.long)).0 h) ∙ long)
-    (λ h. ap (λ (x : List ℕ). find_lower x table) ((bytes_eq-Decides lower (map to_ascii_lowercase s.short)).0 h) ∙ short)
+reads_back s long short word is = grind (arith, find_is, bytes_eq-Decides, either)
 
 -- what the computation has to show
 abbrev AllComputed : List Spelling → Type 0

@@ -65,6 +65,7 @@ fn closed<'a>(text: &'a [u8]) -> Option<&'a [u8]>
 }
 
 /// What is left behind the bracket that closes, over the pieces before it.
+#[tactic(auto, using(crate::proofs::BracketLaws::bracket_steps))]
 fn bracket_rest<'a>(text: &'a [u8]) -> Option<&'a [u8]>
     ensures value { IsLeft (λ rest. rest.now) result (bracket_rest text.now) }
     ensures within { IfSome result (λ rest. length rest.now ≤ length text.now) }
@@ -83,7 +84,7 @@ fn bracket_rest<'a>(text: &'a [u8]) -> Option<&'a [u8]>
 }
 
 /// The length of the bracket at the front.
-#[tactic(auto, unfolding(crate::specs::BracketScan::bracket_at))]
+#[tactic(auto, using(crate::proofs::BracketLaws::bracket_len_at), unfolding(crate::specs::BracketScan::bracket_at))]
 pub fn bracket_len(text: &[u8]) -> Option<usize>
     ensures value { IsSpanLen text.now result (bracket_at text.now) }
     ensures within { IfSome result (λ len. len ≤ length text.now) }

@@ -140,7 +140,7 @@ impl<'a> Cursor<'a> {
     /// # Errors
     ///
     /// `Unexpected` where no white space comes next.
-    #[tactic(auto, unfolding(crate::specs::Scans::sep_at))]
+    #[tactic(auto, using(crate::proofs::Scanned::sep_missing), unfolding(crate::specs::Scans::sep_at))]
     pub fn sep(&mut self) -> Result<&'a [u8], ScanFault>
         ensures exact { Takes (λ span. span.now) self.old result self.new (sep_at self.old) }
         ensures span { IfOk result (λ span. IsLongest IsSep self.old span.now self.new) }
@@ -178,7 +178,7 @@ impl<'a> Cursor<'a> {
     ///
     /// `Unexpected` where no safe byte comes next.
     #[inline(always)]
-    #[tactic(auto, unfolding(crate::specs::Scans::word_at))]
+    #[tactic(auto, using(crate::proofs::TokenLemmas::next_within), unfolding(crate::specs::Scans::word_at))]
     pub fn named(&mut self) -> Result<(&'a [u8], Option<Token>), ScanFault>
         ensures exact { Takes (λ r. r.0.now) self.old result self.new (word_at self.old) }
         ensures token { IfOk result (λ r. r.1 ≡ token_of r.0.now) }
@@ -311,6 +311,7 @@ impl<'a> Cursor<'a> {
     /// # Errors
     ///
     /// `Unexpected` where no bracket comes next.
+    #[tactic(auto, using(crate::proofs::BracketLaws::no_bracket))]
     pub fn bracket(&mut self) -> Result<&'a [u8], ScanFault>
         ensures exact { Takes (λ span. span.now) self.old result self.new (bracket_at self.old) }
         ensures span { IfOk result (λ span. (self.old ≡ span.now ++ self.new) × IsBracket span.now) }
@@ -330,7 +331,7 @@ impl<'a> Cursor<'a> {
     ///
     /// `TooDeep` at a brace that lies deeper, whatever follows it; `Unexpected` where there is no group for another
     /// reason.
-    #[tactic(auto, unfolding(crate::specs::GroupScan::balanced_at))]
+    #[tactic(auto, using(crate::proofs::GroupSound::group_scans), unfolding(crate::specs::GroupScan::balanced_at))]
     pub fn balanced(&mut self, depth: u32) -> Result<&'a [u8], ScanFault>
         requires { depth ≤ 16 }
         ensures exact { Takes (λ span. span.now) self.old result self.new (balanced_at depth self.old) }
@@ -360,6 +361,7 @@ impl<'a> Cursor<'a> {
 
     /// Takes the sign, with the longest white space on both sides of it, if it comes next. A sign is no byte with
     /// which white space begins.
+    #[tactic(auto, using(crate::proofs::Signs::sign_took, crate::proofs::Signs::sign_missed))]
     pub fn sign(&mut self, b: u8) -> bool
         ensures exact { MatchBool result (sign_at b self.old ≡ Some self.new) ((sign_at b self.old ≡ None) × (self.new ≡ self.old)) }
         ensures took { OnTrue result (is_solid b ≡ true → (span : List ℕ) × IsLongest (IsSign b) self.old span self.new) }

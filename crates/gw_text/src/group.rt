@@ -139,6 +139,7 @@ fn step(limit: u32, at: Place, text: &[u8]) -> Result<(Place, usize), ScanFault>
 }
 
 /// What is left behind a group, from behind its first brace.
+#[tactic(auto, using(crate::proofs::GroupSteps::rest_steps))]
 fn group_rest<'a>(limit: u32, text: &'a [u8]) -> Result<&'a [u8], ScanFault>
     requires { 0 < limit }
     ensures value { IsRest (λ rest. rest.now) result (group_rest limit (place 1 before.Other) text.now) }
@@ -158,7 +159,7 @@ fn group_rest<'a>(limit: u32, text: &'a [u8]) -> Result<&'a [u8], ScanFault>
 }
 
 /// The length of the group at the front, with braces at most `depth` deep.
-#[tactic(auto, unfolding(crate::specs::GroupScan::balanced_at))]
+#[tactic(auto, using(crate::proofs::GroupSound::group_len_at), unfolding(crate::specs::GroupScan::balanced_at))]
 pub fn group_len(depth: u32, text: &[u8]) -> Result<usize, ScanFault>
     ensures { IsLen text.now result (balanced_at depth text.now) }
 {

@@ -1,16 +1,18 @@
 //! Octets: the text of a Local or a Remote, and quoted texts.
 
 ghost use Rattle.std.specs.Prelude.{◌≡◌, ◌≤◌, ◌<◌, length, take, slice_index, IfSome};
-ghost use Rattle.gw_text.specs.Lexical.{is_blank, right_brace};
+ghost use Rattle.gw_text.specs.Lexical.{right_brace};
 ghost use Rattle.gw_text.specs.Runs.{IsRun, run_len};
 ghost use Rattle.gw_text.specs.OctetsScan.{is_plain, solid_end, octets_ends, trimmed};
 ghost use Rattle.gw_text.specs.Quoted.{is_quotable};
 ghost use Rattle.gw_text.specs.QuotedScan.{quoted_len};
 
 use crate::class::is_blank;
+use crate::space::blanks_len;
 use memchr::memchr3;
 
 /// The length of octets in which nothing is escaped, if the text begins with such.
+#[tactic(auto, using(crate::proofs::OctetsPlain::plain_below, crate::proofs::OctetsPlain::no_other))]
 fn plain_len(text: &[u8]) -> Option<usize>
     ensures within { IfSome result (λ len. len < length text.now) }
     ensures plain { IfSome result (λ len. IsRun is_plain (take len text.now)) }
@@ -37,6 +39,7 @@ fn solid_end(text: &[u8]) -> usize
 }
 
 /// Where octets end: the place of their `}`, and the end of what is kept of them.
+#[tactic(auto, using(crate::proofs::OctetsPlain::plain_ends))]
 pub fn octets_ends(text: &[u8]) -> Option<(usize, usize)>
     ensures value { result ≡ octets_ends text.now }
     ensures within { IfSome result (λ ends. (ends.0 < length text.now) × (ends.1 ≤ ends.0)) }
@@ -70,18 +73,11 @@ fn escaped_ends(text: &[u8]) -> Option<(usize, usize)>
     None
 }
 
-fn blank_len(text: &[u8]) -> usize
-    ensures value { result ≡ run_len is_blank text.now }
-    ensures within { result ≤ length text.now }
-{
-    text.iter().take_while(|b| is_blank(**b)).count()
-}
-
 /// The text without the white space at its front.
 pub fn trimmed(text: &[u8]) -> &[u8]
     ensures { result.now ≡ trimmed text.now }
 {
-    &text[blank_len(text)..]
+    &text[blanks_len(text)..]
 }
 
 fn is_quotable(b: u8) -> bool

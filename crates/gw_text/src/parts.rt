@@ -115,6 +115,7 @@ fn put_last<T: Drop>(parts: &mut Vec<T, &Bump>, part: T) -> Result<(), AllocErro
 /// # Errors
 ///
 /// `Syntax` where there are none; `NoMemory` where an allocation was refused.
+#[tactic(auto, using(crate::proofs::PartLoops::list_steps))]
 pub fn list<'a, T: Parse<'a>>(
     bump: &'a Bump,
     cursor: &mut Cursor<'a>,
@@ -214,6 +215,7 @@ pub fn braced_or_empty<'a, T: Parse<'a>>(
 /// # Errors
 ///
 /// `Syntax` where anything else stands there; `NoMemory` where an allocation was refused.
+#[tactic(auto, using(crate::proofs::PartLoops::items_loop_fails))]
 pub fn items<'a, T: Parse<'a>>(
     bump: &'a Bump,
     cursor: &mut Cursor<'a>,

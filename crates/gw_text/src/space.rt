@@ -47,7 +47,7 @@ pub fn some_space_len(text: &[u8]) -> usize
 }
 
 /// The length of the blanks.
-fn blanks_len(text: &[u8]) -> usize
+pub fn blanks_len(text: &[u8]) -> usize
     ensures value { result ≡ run_len is_blank text.now }
     ensures within { result ≤ length text.now }
 {

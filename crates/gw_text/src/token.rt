@@ -233,6 +233,7 @@ fn often_long(word: &[u8]) -> Option<Token>
 }
 
 /// The token of a short form that is sent often, as the table has it.
+#[tactic(auto, unfolding(crate::specs::Tokens::token_of, crate::specs::Tokens::is_spelling))]
 fn often_short(word: &[u8]) -> Option<Token>
     ensures { IfSome result (λ token. token_of word.now ≡ Some token) }
 {
@@ -309,6 +310,7 @@ fn recognized_by_either(
 /// The token of the word that comes next, and the word's length, where it is one that is sent often and stands there as
 /// the table has it. No other byte is looked at.
 #[inline(always)]
+#[tactic(auto, unfolding(crate::specs::Tokens::token_of, crate::specs::Tokens::is_spelling))]
 pub fn often_next(text: &[u8]) -> Option<(Token, usize)>
     ensures { IfSome result (λ r. IsNext r.0 r.1 text.now) }
 {
@@ -347,6 +349,7 @@ pub fn often_next(text: &[u8]) -> Option<(Token, usize)>
 /// The token that a word is. It is compared with nine tokens at most, those in its first letter. Kept out of what finds
 /// the tokens that are sent often.
 #[inline(never)]
+#[tactic(auto, using(crate::proofs::TokenInitials::among, crate::proofs::TokenInitials::none_empty))]
 pub fn in_table(word: &[u8]) -> Option<Token>
     ensures { result ≡ token_of word.now }
 {

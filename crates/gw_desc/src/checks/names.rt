@@ -95,7 +95,7 @@ fn is_twice_by_sorting(properties: &[Property<Span<'_>>]) -> bool
 }
 
 /// Whether two names are the same.
-#[tactic(auto, unfolding(crate::specs::Twice::has_name_twice))]
+#[tactic(auto, using(crate::proofs::Counting::double_decides), unfolding(crate::specs::Twice::has_name_twice))]
 pub(crate) fn has_name_twice(properties: &[Property<Span<'_>>]) -> bool
     ensures { result ≡ has_name_twice (names_of properties.now) }
 {

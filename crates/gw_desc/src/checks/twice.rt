@@ -206,6 +206,7 @@ fn is_number_twice_by_pairs(parts: &[MediaPart<'_>]) -> bool
 /// Whether two Streams have one number, by a bit for each. Not inlined, since the bits are 8,192 bytes, which are
 /// cleared where the function begins.
 #[inline(never)]
+#[tactic(auto, using(crate::proofs::Marking::past_parts), unfolding(crate::specs::Twice::has_number_twice))]
 fn is_number_twice_by_bits(parts: &[MediaPart<'_>]) -> bool
     ensures { result ≡ has_number_twice (numbers_in parts.now) }
 {

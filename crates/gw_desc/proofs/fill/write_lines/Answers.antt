@@ -7,15 +7,6 @@ use Rattle.gw_desc.specs.Fill.{line_ends, filled_line, filled_text, is_fillable,
 use Rattle.gw_desc.proofs.FillRuns.{line_stays, stays_told, line_filled, told_past, told_here}
 use Rattle.gw_desc.proofs.fill.write_lines.Goals as goal
 
-pub overflow_add-same : goal.overflow_add-same
-overflow_add-same c = omega (arith, c.loop-len.invariant.0, c.loop-len.invariant.1, c.in-Some.ensures.within, ap (λ (l : List ℕ). length l) c.text_from.ensures, length-drop c.loop-len.same c.loop-len.rest.now, c.in-Some-choice_of.ensures.filled.0, ap (λ (l : List ℕ). length l) c.line_at.ensures, length-take c.in-Some.len (drop c.loop-len.same c.loop-len.rest.now))
-
-pub overflow_add-same-in-None : goal.overflow_add-same-in-None
-overflow_add-same-in-None c = omega (arith, c.loop-len.invariant.0, c.loop-len.invariant.1, c.in-Some.ensures.within, ap (λ (l : List ℕ). length l) c.text_from.ensures, length-drop c.loop-len.same c.loop-len.rest.now)
-
-pub overflow_add-same-in-None-2 : goal.overflow_add-same-in-None-2
-overflow_add-same-in-None-2 c = omega (arith, c.loop-len.invariant.0, c.loop-len.invariant.1, c.in-Some.ensures.within, ap (λ (l : List ℕ). length l) c.text_from.ensures, length-drop c.loop-len.same c.loop-len.rest.now)
-
 pub loop-len-preserved-in-Some-choice_of : goal.loop-len-preserved-in-Some-choice_of
 loop-len-preserved-in-Some-choice_of c =
     let address = c.args.address.now in

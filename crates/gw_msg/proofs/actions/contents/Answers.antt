@@ -1,4 +1,4 @@
-use Rattle.std.proofs.Common.{◌≡◌, ◌∙◌, true, false, refl, rules}
+use Rattle.std.proofs.Common.{◌≡◌, true, false, refl, rules, arith}
 use Rattle.std.proofs.lemmas.Result.{err_from_is_err_and}
 use Rattle.gw_text.specs.Runs.{begins}
 use Rattle.gw_msg.specs.Words.{is_context_property_start}
@@ -14,19 +14,13 @@ returns-in_err-prop c =
     rw (p.1, p.2) (fails c.in_err-prop.field-0.0 c.loop-cursor.props.items c.loop-cursor.cursor c.read.new.cursor c.read.new.cursor (contents_at c.args.cursor.now) is c.in_err-prop.ensures c.loop-cursor.invariant)
 
 pub returns-then-not-sign : goal.returns-then-not-sign
-returns-then-not-sign c =
-    let is : begins is_context_property_start c.loop-cursor.cursor ≡ true = search rules in
-    rw (c.kept.ensures ∙ c.in_ok-put.ensures, c.nothing.ensures, c.if-not-sign.ensures.exact.1)
-    (ends c.loop-cursor.props.items c.loop-cursor.cursor c.read.new.cursor c.in_ok-prop.prop (contents_at c.args.cursor.now) is c.in_ok-prop.ensures c.if-not-sign.ensures.exact.0 c.loop-cursor.invariant)
+returns-then-not-sign c = grind (arith, ends)
 
 pub loop-cursor-smaller : goal.loop-cursor-smaller
-loop-cursor-smaller c = read_less c.loop-cursor.cursor c.read.new.cursor c.sign.new.self c.in_ok-prop.prop c.in_ok-prop.ensures c.if-not-sign.ensures.exact
+loop-cursor-smaller c = grind (arith, read_less)
 
 pub loop-cursor-preserved : goal.loop-cursor-preserved
-loop-cursor-preserved c =
-    let is : begins is_context_property_start c.loop-cursor.cursor ≡ true = search rules in
-    rw c.in_ok-put.ensures
-    (goes_on c.loop-cursor.props.items c.loop-cursor.cursor c.read.new.cursor c.sign.new.self c.in_ok-prop.prop (contents_at c.args.cursor.now) is c.in_ok-prop.ensures c.if-not-sign.ensures.exact c.loop-cursor.invariant)
+loop-cursor-preserved c = grind (arith, goes_on)
 
 pub list-requires : goal.list-requires
 list-requires c = λ k. ((refl, tt), command_shrinks)
@@ -38,7 +32,4 @@ returns-in_err-commands c =
     rw (p.1, p.2) (commands_fail c.in_err-commands.field-0.0 c.loop-cursor.props.items c.loop-cursor.cursor c.list.new.cursor c.list.new.cursor (contents_at c.args.cursor.now) is c.in_err-commands.ensures c.loop-cursor.invariant)
 
 pub returns : goal.returns
-returns c =
-    let is : begins is_context_property_start c.loop-cursor.cursor ≡ false = search rules in
-    rw c.kept-2.ensures
-    (commands_end c.loop-cursor.props.items c.loop-cursor.cursor c.list.new.cursor c.in_ok-commands.commands (contents_at c.args.cursor.now) is c.in_ok-commands.ensures c.loop-cursor.invariant)
+returns c = grind (arith, commands_end)

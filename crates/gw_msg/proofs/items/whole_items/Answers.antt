@@ -1,4 +1,4 @@
-use Rattle.std.proofs.Common.{◌≡◌, ◌∙◌, true, false, ◌++◌, ◌∷◌, [], refl, length, ap, length-append, arith}
+use Rattle.std.proofs.Common.{◌≡◌, ◌∙◌, true, false, ◌++◌, ◌∷◌, [], refl, ap, length-append, arith}
 use Rattle.std.proofs.lemmas.Grind.{common_steps}
 use Rattle.std.proofs.lemmas.Result.{err_from_is_err_and}
 use Rattle.gw_text.specs.Reader.{items_at}
@@ -8,9 +8,7 @@ use Rattle.gw_msg.proofs.ItemLaws.{item_shrinks}
 use Rattle.gw_msg.proofs.items.whole_items.Goals as goal
 
 pub returns-in_err-part : goal.returns-in_err-part
-returns-in_err-part c =
-    let p = err_from_is_err_and c.from_residual.result c.from_residual.ensures.1 in
-    rw (p.1, p.2) (items_loop_fails item_at c.in_err-part.field-0.0 c.loop-parts.parts.items c.loop-parts.cursor c.item.new.cursor c.item.new.cursor (items_at item_at c.args.cursor.now) c.in_err-part.ensures c.loop-parts.invariant)
+returns-in_err-part c = grind (arith, err_from_is_err_and, items_loop_fails)
 
 pub returns-then-is_empty-2 : goal.returns-then-is_empty-2
 returns-then-is_empty-2 c =
@@ -29,6 +27,4 @@ loop-parts-preserved c =
     (items_loop_goes_on item_at item_shrinks c.loop-parts.parts.items c.loop-parts.cursor c.in_ok-part.part c.item.new.cursor c.lwsp.result.now c.lwsp.new.self (items_at item_at c.args.cursor.now) c.in_ok-part.ensures c.lwsp.ensures.exact (λ n. let e : false ≡ true = c.if-is_empty.ensures.1 n in absurd cc) c.loop-parts.invariant)
 
 pub loop-parts-smaller : goal.loop-parts-smaller
-loop-parts-smaller c =
-    let less = item_shrinks c.loop-parts.cursor c.in_ok-part.part c.item.new.cursor c.in_ok-part.ensures in
-    omega (arith, less, ap length c.lwsp.ensures.span.split, length-append c.lwsp.result.now c.lwsp.new.self)
+loop-parts-smaller c = grind (arith, item_shrinks, length-append)

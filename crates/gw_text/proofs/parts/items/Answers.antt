@@ -1,14 +1,8 @@
 use Rattle.std.proofs.Common.{◌≡◌, ◌∙◌, true, false, [], refl, arith}
 use Rattle.std.proofs.lemmas.Grind.{common_steps}
-use Rattle.std.proofs.lemmas.Result.{err_from_is_err_and}
 use Rattle.gw_text.specs.Reader.{items_at}
-use Rattle.gw_text.proofs.PartLoops.{items_loop_fails, lone_item_ends, items_loop_ends, items_loop_goes_on}
+use Rattle.gw_text.proofs.PartLoops.{lone_item_ends, items_loop_ends, items_loop_goes_on}
 use Rattle.gw_text.proofs.parts.items.Goals as goal
-
-pub returns-in_err-part : goal.returns-in_err-part
-returns-in_err-part g c =
-    let p = err_from_is_err_and c.from_residual.result c.from_residual.ensures.1 in
-    rw (p.1, p.2) (items_loop_fails g.T.Parse.read_at c.in_err-part.field-0.0 c.loop-parts.parts.items c.loop-parts.cursor c.read.new.cursor c.read.new.cursor (items_at g.T.Parse.read_at c.args.cursor.now) c.in_err-part.ensures c.loop-parts.invariant)
 
 pub returns-then-is_empty-2 : goal.returns-then-is_empty-2
 returns-then-is_empty-2 g c =

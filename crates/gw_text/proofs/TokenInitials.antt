@@ -1,39 +1,22 @@
 -- A word is looked up among the tokens with a form that begins with its letter: no other token is that word.
-use Rattle.std.proofs.Common.{◌≡◌, ℕ, Bool, true, false, cond, ◌==◌, ◌||◌, ◌<◌, get_or, length, List, [], ◌∷◌, map, refl, ap, sym, ◌∙◌, arith, Some, None}
+use Rattle.std.proofs.Common.{◌≡◌, ℕ, Bool, false, cond, ◌||◌, ◌<◌, get_or, length, List, [], ◌∷◌, refl, ap, ◌∙◌, arith, None}
 use Rattle.std.specs.Char.{to_ascii_lowercase}
-use Rattle.std.proofs.lemmas.Slice.Eq.{bytes_eq-Decides}
-use Rattle.std.proofs.lemmas.Bool.Decides.{nat_tests}
-use Rattle.gw_text.specs.Runs.{begins, is_byte}
 use Rattle.gw_text.specs.Tokens.{Spelling, table, is_same_word, is_spelling, find_token, token_of}
 use Rattle.gw_text.specs.TokenTable.{begins_in, rows_in}
 
-itself : (b : ℕ) → b == b ≡ true
-itself b = grind (arith, nat_tests)
-
-not_true : (t : Bool) → (t ≡ true → ⊥) → t ≡ false
-not_true false h = refl
-not_true true h = absurd (h refl)
-
 -- a form with another letter is another word
 other_letter : (b : ℕ) (bs form : List ℕ) → begins_in (to_ascii_lowercase b) form ≡ false → is_same_word (b ∷ bs) form ≡ false
-other_letter b bs form h =
-    let letter : ℕ = to_ascii_lowercase b in
-    not_true (is_same_word (b ∷ bs) form) (λ same.
-    let first : letter == letter ≡ begins_in letter form = ap (begins (is_byte letter)) ((bytes_eq-Decides (map to_ascii_lowercase (b ∷ bs)) (map to_ascii_lowercase form)).0 same) in
-    let clash : true ≡ false = sym (itself letter) ∙ first ∙ h in absurd cc)
+other_letter b bs form h = grind arith
 
 neither : (a b c d : Bool) → (a ≡ false → c ≡ false) → (b ≡ false → d ≡ false) → a || b ≡ false → c || d ≡ false
-neither false false c d f g h = rw (f refl, g refl) refl
-neither false true c d f g h = absurd cc
-neither true b c d f g h = absurd cc
+neither a b c d f g h = grind arith
 
 other_token : (b : ℕ) (bs : List ℕ) (s : Spelling) → begins_in (to_ascii_lowercase b) s.long || begins_in (to_ascii_lowercase b) s.short ≡ false → is_spelling s.long s.short (b ∷ bs) ≡ false
 unfolding is_spelling
 other_token b bs s = neither (begins_in (to_ascii_lowercase b) s.long) (begins_in (to_ascii_lowercase b) s.short) (is_same_word (b ∷ bs) s.long) (is_same_word (b ∷ bs) s.short) (other_letter b bs s.long) (other_letter b bs s.short)
 
 kept : (t : Bool) (word : List ℕ) (s : Spelling) (rows rest : List Spelling) → (t ≡ false → is_spelling s.long s.short word ≡ false) → find_token word rows ≡ find_token word rest → find_token word (cond t (s ∷ rows) rows) ≡ find_token word (s ∷ rest)
-kept true word s rows rest other so_far = ap (cond (is_spelling s.long s.short word) (Some s.token)) so_far
-kept false word s rows rest other so_far = rw (other refl) so_far
+kept t word s rows rest other so_far = grind arith
 
 found_in : (b : ℕ) (bs : List ℕ) (rows : List Spelling) → find_token (b ∷ bs) (rows_in (to_ascii_lowercase b) rows) ≡ find_token (b ∷ bs) rows
 found_in b bs [] = refl
