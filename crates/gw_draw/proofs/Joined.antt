@@ -58,6 +58,3 @@ module _ {F J R : Type 0} (g : Shared F (Bor J × Unit {0}) R) (f : F) (t : Tabl
         has_past = omega arith;
         filled = subst (λ (p : List ℕ × List (Option R)). IsFilled g f js p.0 p.1) (λ i. (sym drawn i, sym o i)) fill;
       }
-
-pub whole_allowance : (allowance workers crew left : ℕ) → allowance + left ≡ workers → crew ≡ workers → left ≡ 0 → allowance ≡ crew
-whole_allowance allowance workers crew left a b c = omega arith

@@ -1,21 +1,16 @@
 -- Answers in their jobs' places.
+use Rattle.std.proofs.lemmas.Grind.{common_steps}
 use Rattle.std.proofs.Common.{◌≡◌, ℕ, zero, suc, ◌<◌, ◌≤◌, ◌≢◌, List, [], ◌∷◌, ◌++◌, All, length, set, get_or, max, sym, refl, ap, ◌∙◌, subst, arith, append_assoc, append-nil, length-set, get_or-set_same, get_or-set_other, map, replicate, Option, Some, None, IsSome}
 use mathlib.Core.Logic.{dite}
-use mathlib.Core.List.{map-append}
-use Rattle.std.proofs.lemmas.List.{length-map}
+use Rattle.std.proofs.lemmas.List.{get_or-map, length-map}
 use Rattle.std.proofs.lemmas.List.Elements.{All-push}
 use native.Mathlib.Decide.{ℕ_discrete}
-use Rattle.gw_draw.proofs.Sums.{weigh-append, is, is-same, is-other, once_below-facts}
+use Rattle.gw_draw.proofs.Sums.{weigh-append, is, is-same, is-other}
 use denote.Ref.{Bor}
 use denote.Param.Members.{Shared}
 use Rattle.gw_draw.specs.declared.table.View.{View}
-use Rattle.gw_draw.specs.Draws.{times, once_below, top, view, with_draw}
+use Rattle.gw_draw.specs.Draws.{times, top, view, with_draw}
 use Rattle.gw_draw.specs.Answers.{numbers, placed, GivesAt, HasRun, IsFilled, GivesEach}
-
-pub same_read : {A : Type 0} (xs : List A) (i : ℕ) (a d : A) → i < length xs → get_or xs i a ≡ get_or xs i d
-same_read [] i a d h = absurd (omega arith)
-same_read (x ∷ xs) zero a d h = refl
-same_read (x ∷ xs) (suc i) a d h = same_read xs i a d (omega arith)
 
 -- ---- a run, one answer after another
 
@@ -28,50 +23,21 @@ top-snoc [] n = omega arith
 top-snoc (x ∷ xs) n = let h = top-snoc xs n in omega arith
 
 module _ {F J R : Type 0} (g : Shared F (Bor J × Unit {0}) R) (f : F) where
-  each_and : (js : List J) (xs : List (ℕ × R)) (b : ℕ × R) → ((k : ℕ) (a : ℕ × R) → k < length xs → GivesAt g f js (get_or xs k a).0 (get_or xs k a).1) → GivesAt g f js b.0 b.1
-      → (k : ℕ) (a : ℕ × R) → k < length (xs ++ b ∷ []) → GivesAt g f js (get_or (xs ++ b ∷ []) k a).0 (get_or (xs ++ b ∷ []) k a).1
-  each_and js [] b h m zero a l = m
-  each_and js [] b h m (suc k) a l = absurd (omega arith)
-  each_and js (x ∷ xs) b h m zero a l = h zero a (omega arith)
-  each_and js (x ∷ xs) b h m (suc k) a l = each_and js xs b (λ k a l. h (suc k) a (omega arith)) m k a (omega arith)
-
-  pub each_more : (js : List J) (xs ys : List (ℕ × R)) (b : ℕ × R) → ys ≡ xs ++ b ∷ [] → ((k : ℕ) (a : ℕ × R) → k < length xs → GivesAt g f js (get_or xs k a).0 (get_or xs k a).1) → GivesAt g f js b.0 b.1
-      → (k : ℕ) (a : ℕ × R) → k < length ys → GivesAt g f js (get_or ys k a).0 (get_or ys k a).1
-  each_more js xs ys b e h m = subst (λ (l : List (ℕ × R)). (k : ℕ) (a : ℕ × R) → k < length l → GivesAt g f js (get_or l k a).0 (get_or l k a).1) (sym e) (each_and js xs b h m)
+  pub each_more : (js : List J) (xs ys : List (ℕ × R)) (b : ℕ × R) → ys ≡ xs ++ b ∷ [] → All (λ a. GivesAt g f js a.0 a.1) xs → GivesAt g f js b.0 b.1 → All (λ a. GivesAt g f js a.0 a.1) ys
+  each_more js xs ys b e h m = subst (All (λ a. GivesAt g f js a.0 a.1)) (sym e) (All-push (λ a. GivesAt g f js a.0 a.1) xs b h m)
 
 pub view_more : {R : Type 0} (v0 v1 v2 : View) (ns ms : List (ℕ × R)) (a : ℕ × R) → v1 ≡ view (v0.drawn ++ numbers ns) v0.allowance v0.jobs v0.workers → v2 ≡ with_draw v1 a.0 → ms ≡ ns ++ a ∷ []
     → v2 ≡ view (v0.drawn ++ numbers ms) v0.allowance v0.jobs v0.workers
-view_more {R} v0 v1 v2 ns ms a e1 e2 e3 =
-    e2 ∙ (ap (λ (v : View). with_draw v a.0) e1
-    ∙ (ap (λ (l : List ℕ). view l v0.allowance v0.jobs v0.workers) (append_assoc v0.drawn (numbers ns) (a.0 ∷ []) ∙ ap (λ (l : List ℕ). v0.drawn ++ l) (sym (numbers-snoc ns a)))
-    ∙ ap (λ (l : List (ℕ × R)). view (v0.drawn ++ numbers l) v0.allowance v0.jobs v0.workers) (sym e3)))
+view_more {R} v0 v1 v2 ns ms a e1 e2 e3 = grind (arith, append_assoc, numbers-snoc)
 
 pub alone_more : (jobs : ℕ) (v1 v2 : View) (n : ℕ) → v2 ≡ with_draw v1 n → All (λ x. x < jobs) v1.drawn → n < jobs → All (λ x. x < jobs) v2.drawn
-alone_more jobs v1 v2 n e alone l = subst (λ (xs : List ℕ). All (λ x. x < jobs) xs) (sym (ap (λ (v : View). v.drawn) e)) (All-push (λ (x : ℕ). x < jobs) v1.drawn n alone l)
+alone_more jobs v1 v2 n e alone l = grind (arith, common_steps)
 
 -- ---- places
 
-mapped_at : {A : Type 0} (xs : List A) (i : ℕ) (d : A) → i < length xs → get_or (map (λ x. Some x) xs) i None ≡ Some (get_or xs i d)
-mapped_at [] i d l = absurd (omega arith)
-mapped_at (x ∷ xs) zero d l = refl
-mapped_at (x ∷ xs) (suc i) d l = mapped_at xs i d (omega arith)
-
-blank_at : {A : Type 0} (n i : ℕ) → get_or (replicate {A = Option A} n None) i None ≡ None
-blank_at zero i = refl
-blank_at (suc n) zero = refl
-blank_at (suc n) (suc i) = blank_at n i
-
-blank-length : (A : Type 0) (n : ℕ) → length (replicate {A = Option A} n None) ≡ n
-blank-length A zero = refl
-blank-length A (suc n) = let h = blank-length A n in omega arith
-
 module _ {F J R : Type 0} (g : Shared F (Bor J × Unit {0}) R) (f : F) (js : List J) where
   pub filled_none : IsFilled g f js [] (replicate (length js) None)
-  filled_none = record {
-    len = blank-length R (length js);
-    full = λ i l t. absurd (omega arith);
-    given = λ i r e. let b = blank_at {A = R} (length js) i in cc;
-  }
+  filled_none = grind (arith, common_steps)
 
   filled_set : (ds : List ℕ) (out : List (Option R)) (j : ℕ) (r : R) → IsFilled g f js ds out → GivesAt g f js j r → IsFilled g f js (ds ++ j ∷ []) (set out j (Some r))
   filled_set ds out j r h m =
@@ -103,14 +69,7 @@ module _ {F J R : Type 0} (g : Shared F (Bor J × Unit {0}) R) (f : F) (js : Lis
       (filled_placed ns (ds ++ a.0 ∷ []) (set out a.0 (Some a.1)) step (λ k b l. m (suc k) b (omega arith)))
 
   filled_past : (ds : List ℕ) (p : ℕ) (out : List (Option R)) → IsFilled g f js ds out → length js ≤ p → IsFilled g f js (ds ++ p ∷ []) out
-  filled_past ds p out h l = record {
-    len = h.len;
-    full = λ i s t.
-        let a = weigh-append (is i) ds (p ∷ []) in
-        let z = is-other i p (λ e. absurd (omega arith)) in
-        h.full i s (omega arith);
-    given = h.given;
-  }
+  filled_past ds p out h l = grind (arith, weigh-append, is, is-other)
 
   -- a worker's run adds its numbers and its answers
   pub filled_more : (ds : List ℕ) (out : List (Option R)) (workers : ℕ) (w : View) (ns : List (ℕ × R)) → IsFilled g f js ds out → HasRun g f js (view [] 1 (length js) workers) w ns → IsFilled g f js (ds ++ w.drawn) (placed out ns)
@@ -121,20 +80,7 @@ module _ {F J R : Type 0} (g : Shared F (Bor J × Unit {0}) R) (f : F) (js : Lis
 
   -- a worker has drawn the number at which its run ended
   pub has_past : (workers : ℕ) (w : View) (ns : List (ℕ × R)) → (d : HasRun g f js (view [] 1 (length js) workers) w ns) → 0 < times d.past w.drawn
-  has_past workers w ns d =
-      let run : times d.past w.drawn ≡ times d.past (numbers ns ++ d.past ∷ []) = ap (λ (v : View). times d.past v.drawn) d.drawn in
-      let a = weigh-append (is d.past) (numbers ns) (d.past ∷ []) in
-      let s = is-same d.past in
-      omega arith
-
-  -- where the numbers drawn are those below n, one of which is past the jobs, each place has an answer
-  pub all_full : (ds : List ℕ) (out : List (Option R)) (n past : ℕ) → IsFilled g f js ds out → length js ≤ past → 0 < times past ds → ((x : ℕ) → times x ds ≡ once_below n x) → (i : ℕ) → i < length js → IsSome (get_or out i None)
-  all_full ds out n past h is_past stands once i l =
-      let p = once past in
-      let b = (once_below-facts n past).2 (omega arith) in
-      let t = once i in
-      let o = (once_below-facts n i).0 (omega arith) in
-      h.full i l (omega arith)
+  has_past workers w ns d = grind (arith, weigh-append, is, is-same)
 
   pub gives_each : (ds : List ℕ) (out : List (Option R)) (rs : List R) → IsFilled g f js ds out → map (λ r. Some r) rs ≡ out → GivesEach g f js rs
   gives_each ds out rs h e =
@@ -142,7 +88,7 @@ module _ {F J R : Type 0} (g : Shared F (Bor J × Unit {0}) R) (f : F) (js : Lis
       let len = h.len in
       record {
         as_many = same ∙ h.len;
-        each = λ i d l. h.given i (get_or rs i d) (ap (λ (o : List (Option R)). get_or o i None) (sym e) ∙ mapped_at rs i d (omega arith));
+        each = λ i d l. h.given i (get_or rs i d) (ap (λ (o : List (Option R)). get_or o i None) (sym e) ∙ get_or-map (λ (r : R). Some r) rs i d None (omega arith));
       }
 
 -- ---- the loops over answers and places
@@ -156,12 +102,10 @@ inside_step {R} m n x now after e same h k a l =
     subst (λ (t : ℕ). (get_or after k a).0 < t) (sym same) (whole (suc k) a (omega arith))
 
 pub inside_head : {R : Type 0} (m : ℕ) (x : ℕ × R) (now after : List (ℕ × R)) → now ≡ x ∷ after → ((k : ℕ) (a : ℕ × R) → k < length now → (get_or now k a).0 < m) → x.0 < m
-inside_head {R} m x now after e h = subst (λ (t : List (ℕ × R)). (k : ℕ) (a : ℕ × R) → k < length t → (get_or t k a).0 < m) e h zero x (omega arith)
+inside_head {R} m x now after e h = grind (arith, common_steps)
 
 pub unwrap_step : {R : Type 0} (xs ys : List R) (x : R) (now after whole : List (Option R)) → now ≡ Some x ∷ after → ys ≡ xs ++ x ∷ [] → map (λ y. Some y) xs ++ now ≡ whole → map (λ y. Some y) ys ++ after ≡ whole
-unwrap_step {R} xs ys x now after whole e n h =
-    ap (λ (t : List R). map (λ y. Some y) t ++ after) n ∙ (ap (λ (t : List (Option R)). t ++ after) (map-append (λ (y : R). Some y) xs (x ∷ []))
-    ∙ (append_assoc (map (λ y. Some y) xs) (Some x ∷ []) after ∙ (ap (λ (t : List (Option R)). map (λ y. Some y) xs ++ t) (sym e) ∙ h)))
+unwrap_step {R} xs ys x now after whole e n h = grind (arith, common_steps)
 
 pub some_step : {R : Type 0} (x : Option R) (now after : List (Option R)) → now ≡ x ∷ after → ((k : ℕ) → k < length now → IsSome (get_or now k None)) → IsSome x × ((k : ℕ) → k < length after → IsSome (get_or after k None))
 some_step {R} x now after e h =

@@ -37,16 +37,7 @@ fair_snoc jobs workers views w all mine k v e =
 -- ---- a draw
 
 draw_fair : (jobs workers n : ℕ) (v : View) → IsFair jobs workers v → 0 < v.allowance → All (λ x. x < v.jobs) v.drawn → IsFair jobs workers (with_draw v n)
-draw_fair jobs workers n v f allowed jobs_alone =
-    let same = (f.agrees allowed).0 in
-    let none = none_past v.jobs v.drawn jobs_alone in
-    let none' : count_past jobs v.drawn ≡ 0 = subst (λ (j : ℕ). count_past j v.drawn ≡ 0) same none in
-    let more = weigh-append (past_one jobs) v.drawn (n ∷ []) in
-    record {
-      idle = λ z. absurd (omega arith);
-      agrees = f.agrees;
-      allowed = (let one = (past_one-facts jobs n).2 in omega arith);
-    }
+draw_fair jobs workers n v f allowed jobs_alone = grind (arith, none_past, weigh-append, past_one, past_one-facts)
 
 pub draws : (jobs workers slots id : ℕ) (me : M) → 0 < me.0.allowance → All (λ x. x < me.0.jobs) me.0.drawn
     → Allows (IsKept jobs workers) slots id me 0 (λ n. (n + 1) % 18446744073709551616) (Drew (step slots 0 1 0 mathlib.Core.Option.none) me)

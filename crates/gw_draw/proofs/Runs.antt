@@ -1,6 +1,6 @@
 -- The answers of all runs have each job once.
-use Rattle.std.proofs.Common.{◌≡◌, ℕ, ◌+◌, ◌<◌, ◌≤◌, Bool, true, false, List, [], ◌∷◌, ◌++◌, All, length, refl, arith, nat_lt}
-use Rattle.std.proofs.lemmas.Bool.Decides.{nat_tests}
+use Rattle.std.proofs.Common.{◌≡◌, ℕ, ◌+◌, ◌<◌, ◌≤◌, List, [], ◌∷◌, ◌++◌, All, length, refl, arith}
+use Rattle.std.proofs.lemmas.Bool.{cases_lt}
 use Rattle.std.proofs.lemmas.List.Elements.{All-head, All-tail}
 use Rattle.gw_draw.specs.Draws.{times, once_below}
 use Rattle.gw_draw.specs.Runs.{drawn_in, answered_in, EachJobOnce}
@@ -47,20 +47,8 @@ passed jobs n (r ∷ runs) l all e =
     let o = (once_below-facts n r.1).2 (omega arith) in
     omega arith
 
-by_place : (jobs n x : ℕ) (runs : List (List ℕ × ℕ)) (b : Bool) → nat_lt x jobs ≡ b → jobs < n → All (λ r. jobs ≤ r.1) runs → All (λ x. x < jobs) (answered_in runs) → times x (drawn_in runs) ≡ once_below n x
-    → times x (answered_in runs) ≡ once_below jobs x
-by_place jobs n x runs true is_job past all inside e =
-    let l : x < jobs = grind (arith, nat_tests) in
-    let t = times-drawn x runs in
-    let z = no_end jobs x runs all l in
-    let o = (once_below-facts n x).0 (omega arith) in
-    let p = (once_below-facts jobs x).0 l in
-    omega arith
-by_place jobs n x runs false is_job past all inside e =
-    let l : jobs ≤ x = grind (arith, nat_tests) in
-    let z = not_past jobs x (answered_in runs) inside l in
-    let p = (once_below-facts jobs x).1 l in
-    omega arith
+by_place : (jobs n x : ℕ) (runs : List (List ℕ × ℕ)) → jobs < n → All (λ r. jobs ≤ r.1) runs → All (λ x. x < jobs) (answered_in runs) → times x (drawn_in runs) ≡ once_below n x → times x (answered_in runs) ≡ once_below jobs x
+by_place jobs n x runs past all inside e = grind (arith, times-drawn, once_below-facts, cases_lt, no_end, not_past)
 
 pub each_job_once : EachJobOnce
-each_job_once jobs n runs l all inside e x = by_place jobs n x runs (nat_lt x jobs) refl (passed jobs n runs l all e) all inside (e x)
+each_job_once jobs n runs l all inside e x = by_place jobs n x runs (passed jobs n runs l all e) all inside (e x)

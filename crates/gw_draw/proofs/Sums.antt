@@ -1,5 +1,6 @@
 -- Sums over lists of numbers and over views.
-use Rattle.std.proofs.Common.{◌≡◌, ℕ, zero, suc, ◌+◌, ◌-◌, ◌<◌, ◌≤◌, ◌≢◌, ◌==◌, Bool, true, false, if◌then◌else◌, List, [], ◌∷◌, ◌++◌, set, sym, refl, ap, ◌∙◌, arith, All, nat_lt, eq-eqb, ne_eqb}
+use Rattle.std.proofs.lemmas.Grind.{common_steps}
+use Rattle.std.proofs.Common.{◌≡◌, ℕ, zero, suc, ◌+◌, ◌-◌, ◌<◌, ◌≤◌, ◌≢◌, ◌==◌, Bool, if◌then◌else◌, List, [], ◌∷◌, ◌++◌, set, sym, refl, ap, ◌∙◌, arith, All, nat_lt, eq-eqb, ne_eqb}
 use mathlib.Core.Option.{some, some-injective, some-ne-none}
 use mathlib.Core.Logic.{dite}
 use native.Mathlib.Decide.{ℕ_discrete}
@@ -59,34 +60,15 @@ is-other x y ne = ap (λ (b : Bool). if b then 1 else 0) (ne_eqb y x ne)
 abbrev pub past_one : ℕ → ℕ → ℕ
 past_one jobs y = if nat_lt y jobs then 0 else 1
 
-past_one-case : (n x : ℕ) (b : Bool) → nat_lt x n ≡ b → (x < n → past_one n x ≡ 0) × (past_one n x ≡ 0 → x < n) × (past_one n x ≤ 1)
-past_one-case n x true e = let l : x < n = grind (arith, nat_tests) in let z : past_one n x ≡ 0 = ap (λ (c : Bool). if c then 0 else 1) e in (λ _. z, λ _. l, omega arith)
-past_one-case n x false e = let l : n ≤ x = grind (arith, nat_tests) in let z : past_one n x ≡ 1 = ap (λ (c : Bool). if c then 0 else 1) e in (λ q. absurd (omega arith), λ q. absurd (omega arith), omega arith)
-
 pub past_one-facts : (n x : ℕ) → (x < n → past_one n x ≡ 0) × (past_one n x ≡ 0 → x < n) × (past_one n x ≤ 1)
-past_one-facts n x = past_one-case n x (nat_lt x n) refl
-
-once_below-case : (n x : ℕ) (b : Bool) → nat_lt x n ≡ b → (x < n → once_below n x ≡ 1) × (n ≤ x → once_below n x ≡ 0) × (0 < once_below n x → x < n)
-once_below-case n x true e = let l : x < n = grind (arith, nat_tests) in let z : once_below n x ≡ 1 = ap (λ (c : Bool). if c then 1 else 0) e in (λ _. z, λ q. absurd (omega arith), λ _. l)
-once_below-case n x false e = let l : n ≤ x = grind (arith, nat_tests) in let z : once_below n x ≡ 0 = ap (λ (c : Bool). if c then 1 else 0) e in (λ q. absurd (omega arith), λ _. z, λ q. absurd (omega arith))
+past_one-facts n x = (λ l. grind (arith, nat_tests), λ e. grind (arith, nat_tests), grind (arith, nat_tests))
 
 pub once_below-facts : (n x : ℕ) → (x < n → once_below n x ≡ 1) × (n ≤ x → once_below n x ≡ 0) × (0 < once_below n x → x < n)
-once_below-facts n x = once_below-case n x (nat_lt x n) refl
-
-below_other : (n x : ℕ) (b : Bool) → nat_lt x n ≡ b → n ≢ x → once_below n x ≡ once_below (suc n) x
-below_other n x true e ne = let l : x < n = grind (arith, nat_tests) in let a = (once_below-facts n x).0 l in let c = (once_below-facts (suc n) x).0 (omega arith) in omega arith
-below_other n x false e ne = let l : n ≤ x = grind (arith, nat_tests) in let a = (once_below-facts n x).1 l in let c = (once_below-facts (suc n) x).1 (omega arith) in omega arith
+once_below-facts n x = (λ l. grind (arith, nat_tests), λ l. grind (arith, nat_tests), λ l. grind (arith, nat_tests))
 
 -- one more number
 pub below-suc : (n x : ℕ) → once_below n x + is x n ≡ once_below (suc n) x
-below-suc n x = dite (ℕ_discrete n x)
-    (λ (e : n ≡ x).
-    let a = (once_below-facts n x).1 (omega arith) in
-    let c = (once_below-facts (suc n) x).0 (omega arith) in
-    let s = is-same x in
-    let t : is x n ≡ is x x = ap (is x) e in
-    omega arith)
-    (λ (ne : n ≢ x). let z = is-other x n ne in let o = below_other n x (nat_lt x n) refl ne in omega arith)
+below-suc n x = grind (arith, common_steps)
 
 -- what is left of a list when a number that stands in it is taken out once
 pub removed : (x : ℕ) (xs : List ℕ) → 0 < times x xs → (ys : List ℕ) × ((h : ℕ → ℕ) → weigh h xs ≡ weigh h ys + h x)
@@ -125,13 +107,12 @@ total-weigh h (v ∷ vs) = let i = total-weigh h vs in let a = weigh-append h v.
 pub views_weighed : (n : ℕ) (vs : List View) → ((x : ℕ) → total (λ v. times x v.drawn) vs ≡ once_below n x) → (h : ℕ → ℕ) → total (λ v. weigh h v.drawn) vs ≡ sum_below h n
 views_weighed n vs e h = total-weigh h vs ∙ weighed n (all_drawn vs) (λ x. sym (total-weigh (is x) vs) ∙ e x) h
 
-past-at : (jobs n : ℕ) (b : Bool) → nat_lt n jobs ≡ b → (suc n - jobs) ≡ (n - jobs) + (if b then 0 else 1)
-past-at jobs n true e = let l : n < jobs = grind (arith, nat_tests) in omega arith
-past-at jobs n false e = let l : jobs ≤ n = grind (arith, nat_tests) in omega arith
+past-at : (jobs n : ℕ) → suc n - jobs ≡ n - jobs + past_one jobs n
+past-at jobs n = grind (arith, nat_tests)
 
 pub past-below : (jobs n : ℕ) → sum_below (past_one jobs) n ≡ n - jobs
 past-below jobs zero = omega arith
-past-below jobs (suc n) = let h = past-below jobs n in let s = past-at jobs n (nat_lt n jobs) refl in omega arith
+past-below jobs (suc n) = let h = past-below jobs n in let s = past-at jobs n in omega arith
 
 -- a list of job numbers has none that is no job's
 pub none_past : (jobs : ℕ) (xs : List ℕ) → All (λ x. x < jobs) xs → count_past jobs xs ≡ 0

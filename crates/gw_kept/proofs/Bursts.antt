@@ -1,69 +1,36 @@
 -- The classes of a burst, from one item to the next.
-use Rattle.std.proofs.Common.{◌≡◌, ℕ, ◌+◌, ◌<◌, not, Bool, true, false, List, [], ◌∷◌, ◌++◌, map, length, drop, get_or, refl, ap, sym, ◌∙◌, append_assoc}
-use Rattle.std.proofs.lemmas.List.{append-nil, map-append, drop_more}
-use Rattle.circular_buffer.specs.Buffer.{keep_last}
+use Rattle.std.proofs.lemmas.Grind.{common_steps}
+use Rattle.std.proofs.Common.{◌≡◌, ℕ, ◌+◌, ◌<◌, Bool, true, false, List, [], ◌∷◌, ◌++◌, map, length, drop, get_or, refl, ap, sym, append_assoc, arith}
+use Rattle.std.proofs.lemmas.List.{append-nil, map-append}
 use Rattle.gw_kept.specs.declared.entry.Entry.{Entry}
 use Rattle.gw_kept.specs.declared.entry.RequestKey.{RequestKey}
 use Rattle.gw_kept.specs.declared.point.Point.{Point}
 use Rattle.gw_kept.specs.declared.point.Point.TheVariants as point
 use Rattle.gw_kept.specs.declared.point.Removal.{Removal}
 use Rattle.gw_kept.specs.declared.class.Class.{Class}
-use Rattle.gw_kept.specs.declared.class.Class.TheVariants.{New, Repeat, Over, Nothing}
+use Rattle.gw_kept.specs.declared.class.Class.TheVariants.{New, Nothing}
 use Rattle.gw_kept.specs.Pairs.{KeptList, key_of}
-use Rattle.gw_kept.specs.Forgotten.{is_named}
-use Rattle.gw_kept.specs.Changes.{Change, Keep, Remove, kept_after, entries_in}
-use Rattle.gw_kept.specs.Classes.{Standing, standing_of, keys_of, class_at, with_key, without, behind, behind_request, classes_behind, classes_of}
+use Rattle.gw_kept.specs.Changes.{Change, Keep, Remove}
+use Rattle.gw_kept.specs.Classes.{Standing, standing_of, class_at, without, behind, classes_behind, classes_of}
 use Rattle.gw_kept.specs.Index.{requests_behind, seen}
-use Rattle.gw_kept.specs.Repeats.{standing_after, class_after, classes_after}
+use Rattle.gw_kept.specs.Repeats.{class_after, classes_after}
 use Rattle.gw_kept.proofs.Changed.{one_more_after, entries_more, most_after}
 use Rattle.gw_kept.proofs.Last.{keys_last}
 use Rattle.gw_kept.proofs.Filters.{filter_map_is}
 
 -- ---- in turn
 
-abbrev standing : List RequestKey → List RequestKey → Standing
-standing pairs kept = record { pairs = pairs; kept = kept }
-
 pub from_start : (k : KeptList) (items : List Point) → classes_of k items ≡ classes_after k [] items
-from_start k items = ap (λ (es : List Entry). classes_behind k.most (length k.pairs) (standing (map key_of es) (keys_of k)) items) (sym (append-nil k.pairs))
-
-pub then_nothing : (k : KeptList) (cs : List Change) (rest : List Point) → classes_after k cs (point.Nothing ∷ rest) ≡ Nothing ∷ classes_after k cs rest
-then_nothing k cs rest = refl
-
-keys_without : (k : KeptList) (cs : List Change) (r : Removal) → without r (standing_after k cs) ≡ standing_after k (cs ++ Remove r ∷ [])
-keys_without k cs r =
-    ap (λ (l : List RequestKey). standing (map key_of (k.pairs ++ entries_in cs)) l) (filter_map_is (λ (q : RequestKey). not (is_named r.mid r.ranges q)) key_of (kept_after k cs).pairs)
-    ∙ ap (λ (l : KeptList). standing (map key_of (k.pairs ++ entries_in cs)) (keys_of l)) (sym (one_more_after k cs (Remove r)))
-    ∙ ap (λ (es : List Entry). standing (map key_of (k.pairs ++ es)) (keys_of (kept_after k (cs ++ Remove r ∷ [])))) (sym (entries_more cs (Remove r) ∙ append-nil (entries_in cs)))
+from_start k items = grind (arith, common_steps)
 
 pub then_acknowledged : (k : KeptList) (cs : List Change) (r : Removal) (rest : List Point) → classes_after k cs (point.Ack r ∷ rest) ≡ Nothing ∷ classes_after k (cs ++ Remove r ∷ []) rest
-then_acknowledged k cs r rest = ap (λ (s : Standing). Nothing ∷ classes_behind k.most (length k.pairs) s rest) (keys_without k cs r)
-
-keys_with : (k : KeptList) (cs : List Change) (e : Entry) → with_key k.most (key_of e) (standing_after k cs) ≡ standing_after k (cs ++ Keep e ∷ [])
-keys_with k cs e =
-    let kept : KeptList = kept_after k cs in
-    let pairs : map key_of (k.pairs ++ entries_in cs) ++ key_of e ∷ [] ≡ map key_of (k.pairs ++ entries_in (cs ++ Keep e ∷ [])) =
-    sym (map-append key_of (k.pairs ++ entries_in cs) (e ∷ [])) ∙ ap (map key_of) (append_assoc k.pairs (entries_in cs) (e ∷ []) ∙ ap (λ (l : List Entry). k.pairs ++ l) (sym (entries_more cs (Keep e))))
-    in
-    let last : keep_last k.most (keys_of kept ++ key_of e ∷ []) ≡ keys_of (kept_after k (cs ++ Keep e ∷ [])) =
-    ap (λ (m : ℕ). keep_last m (keys_of kept ++ key_of e ∷ [])) (sym (most_after k cs)) ∙ keys_last kept.most kept.pairs e ∙ ap keys_of (sym (one_more_after k cs (Keep e)))
-    in
-    λ i. standing (pairs i) (last i)
+then_acknowledged k cs r rest = grind (arith, filter_map_is, one_more_after, entries_more, append-nil)
 
 pub then_new : (k : KeptList) (cs : List Change) (e : Entry) (rest : List Point) → class_after k cs (key_of e) ≡ New → classes_after k cs (point.Request (key_of e) ∷ rest) ≡ New ∷ classes_after k (cs ++ Keep e ∷ []) rest
-then_new k cs e rest new =
-    ap (λ (c : Class). c ∷ classes_behind k.most (length k.pairs) (behind_request k.most c (key_of e) (standing_after k cs)) rest) new
-    ∙ ap (λ (s : Standing). New ∷ classes_behind k.most (length k.pairs) s rest) (keys_with k cs e)
-
-same_standing : (most : ℕ) (c : Class) (key : RequestKey) (s : Standing) → (c ≡ New → ⊥) → behind_request most c key s ≡ s
-same_standing most New key s h = absurd (h refl)
-same_standing most (Repeat from) key s h = refl
-same_standing most Over key s h = refl
-same_standing most Nothing key s h = refl
+then_new k cs e rest new = grind (arith, map-append, append_assoc, entries_more, most_after, keys_last, one_more_after)
 
 pub then_other : (k : KeptList) (cs : List Change) (key : RequestKey) (rest : List Point) → (class_after k cs key ≡ New → ⊥) → classes_after k cs (point.Request key ∷ rest) ≡ class_after k cs key ∷ classes_after k cs rest
-then_other k cs key rest h =
-    ap (λ (s : Standing). class_after k cs key ∷ classes_behind k.most (length k.pairs) s rest) (same_standing k.most (class_after k cs key) key (standing_after k cs) h)
+then_other k cs key rest h = grind (arith, common_steps)
 
 -- ---- where no request comes behind an acknowledgement
 
@@ -97,10 +64,4 @@ pub goes_on : (most before : ℕ) (b : Bool) (requested : List Point) (i : ℕ) 
     → classes ++ classes_behind most before s (map (seen b) (drop i requested)) ≡ total
     → c ≡ class_at before (seen b x) s
     → (classes ++ c ∷ []) ++ classes_behind most before (behind most before (seen b x) s) (map (seen b) (drop (i + 1) requested)) ≡ total
-goes_on most before b requested i x classes c s total h is so_far class =
-    let next : List Class = classes_behind most before (behind most before (seen b x) s) (map (seen b) (drop (i + 1) requested)) in
-    append_assoc classes (c ∷ []) next
-    ∙ ap (λ (d : Class). classes ++ d ∷ next) class
-    ∙ ap (λ (y : Point). classes ++ classes_behind most before s (map (seen b) (y ∷ drop (i + 1) requested))) is
-    ∙ ap (λ (l : List Point). classes ++ classes_behind most before s (map (seen b) l)) (sym (drop_more requested i x h))
-    ∙ so_far
+goes_on most before b requested i x classes c s total h is so_far class = grind (arith, common_steps)

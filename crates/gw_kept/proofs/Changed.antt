@@ -1,6 +1,8 @@
 -- What is kept after several changes: how many pairs, and their keys.
-use Rattle.std.proofs.Common.{◌≡◌, ℕ, zero, suc, ◌≤◌, ◌-◌, not, Bool, true, false, cond, List, [], ◌∷◌, ◌++◌, length, drop, Option, Some, None, refl, ap, sym, subst, ◌∙◌, arith}
-use Rattle.std.specs.List.{filter}
+use Rattle.std.proofs.Common.{◌≡◌, ℕ, zero, suc, ◌≤◌, ◌-◌, not, Bool, true, false, cond, List, [], ◌∷◌, ◌++◌, length, drop, Option, Some, None, refl, ap, sym, subst, ◌∙◌, arith, rules}
+use Rattle.std.proofs.lemmas.Bool.{cond_both, not-true, not-false}
+use Rattle.std.proofs.lemmas.List.Elements.{All-nil, All-cons, All-head, All-tail, All-push, All-drop, All-filter}
+use Rattle.std.specs.List.{All, filter}
 use Rattle.gw_kept.specs.declared.entry.Entry.{Entry}
 use Rattle.gw_kept.specs.declared.entry.RequestKey.{RequestKey}
 use Rattle.gw_kept.specs.declared.point.Removal.{Removal}
@@ -9,7 +11,7 @@ use Rattle.gw_kept.specs.Forgotten.{is_named}
 use Rattle.gw_kept.specs.Changes.{Change, Keep, Remove, changed, kept_after, entries_in, IsNew, AreNew}
 use Rattle.gw_kept.proofs.Last.{few_last}
 use Rattle.gw_kept.proofs.Filters.{few_left}
-use Rattle.gw_kept.proofs.Places.{same_key, same_back}
+use Rattle.gw_kept.proofs.Places.{absent_head, other_key, same_back}
 
 -- ---- one change more
 
@@ -48,46 +50,42 @@ few_after k (c ∷ cs) h =
 
 -- ---- keys that no pair has
 
-pub absent_head : (t : Bool) (b : List ℕ) (rest : Option (List ℕ)) → cond t (Some b) rest ≡ None → (t ≡ false) × (rest ≡ None)
-absent_head true b rest e = absurd cc
-absent_head false b rest e = (refl, e)
-
-absent_more : (key : RequestKey) (xs : List Entry) (e : Entry) → bytes_for key xs ≡ None → is_same key (key_of e) ≡ false → bytes_for key (xs ++ e ∷ []) ≡ None
-absent_more key [] e none other = rw other refl
-absent_more key (x ∷ xs) e none other =
+pub others : (key : RequestKey) (es : List Entry) → bytes_for key es ≡ None → All (λ x. is_same key (key_of x) ≡ false) es
+others key [] none = All-nil (λ x. is_same key (key_of x) ≡ false)
+others key (x ∷ xs) none =
     let h = absent_head (is_same key (key_of x)) x.bytes (bytes_for key xs) none in
-    rw h.0 (absent_more key xs e h.1 other)
+    All-cons (λ x. is_same key (key_of x) ≡ false) x xs h.0 (others key xs h.1)
 
-absent_step : (b : Bool) (t : Entry → Bool) (key : RequestKey) (x : Entry) (xs : List Entry) → t x ≡ b → is_same key (key_of x) ≡ false → bytes_for key (filter t xs) ≡ None → bytes_for key (cond (t x) (x ∷ filter t xs) (filter t xs)) ≡ None
-absent_step true t key x xs is other none = rw (is, other) none
-absent_step false t key x xs is other none = rw is none
+pub absent : (key : RequestKey) (es : List Entry) → All (λ x. is_same key (key_of x) ≡ false) es → bytes_for key es ≡ None
+absent key [] all = refl
+absent key (x ∷ xs) all =
+    let P : Entry → Type 0 = λ x. is_same key (key_of x) ≡ false in
+    rw (All-head P x xs all) (absent key xs (All-tail P x xs all))
 
-absent_left : (t : Entry → Bool) (key : RequestKey) (xs : List Entry) → bytes_for key xs ≡ None → bytes_for key (filter t xs) ≡ None
-absent_left t key [] none = refl
-absent_left t key (x ∷ xs) none =
-    let h = absent_head (is_same key (key_of x)) x.bytes (bytes_for key xs) none in
-    absent_step (t x) t key x xs refl h.0 (absent_left t key xs h.1)
+pub absent_drop : (n : ℕ) (key : RequestKey) (es : List Entry) → bytes_for key es ≡ None → bytes_for key (drop n es) ≡ None
+absent_drop n key es none = absent key (drop n es) (All-drop (λ x. is_same key (key_of x) ≡ false) n es (others key es none))
 
 -- ---- keys stay distinct
 
 distinct_more : (xs : List Entry) (e : Entry) → AreDistinct xs → bytes_for (key_of e) xs ≡ None → AreDistinct (xs ++ e ∷ [])
 distinct_more [] e d none = (refl, tt)
 distinct_more (x ∷ xs) e d none =
-    let h = absent_head (is_same (key_of e) (key_of x)) x.bytes (bytes_for (key_of e) xs) none in
-    (absent_more (key_of x) xs e d.0 (same_back (key_of x) (key_of e) ∙ h.0), distinct_more xs e d.1 h.1)
+    let h = absent_head (is_same (key_of e) (key_of x)) x.bytes (bytes_for (key_of e) xs) none in (
+      absent (key_of x) (xs ++ e ∷ []) (All-push (λ y. is_same (key_of x) (key_of y) ≡ false) xs e (others (key_of x) xs d.0) (same_back (key_of x) (key_of e) ∙ h.0)),
+      distinct_more xs e d.1 h.1,
+    )
 
 distinct_drop : (n : ℕ) (xs : List Entry) → AreDistinct xs → AreDistinct (drop n xs)
 distinct_drop zero xs d = d
 distinct_drop (suc n) [] d = tt
 distinct_drop (suc n) (x ∷ xs) d = distinct_drop n xs d.1
 
-distinct_step : (b : Bool) (t : Entry → Bool) (x : Entry) (xs : List Entry) → t x ≡ b → bytes_for (key_of x) xs ≡ None → AreDistinct (filter t xs) → AreDistinct (cond (t x) (x ∷ filter t xs) (filter t xs))
-distinct_step true t x xs is none d = subst (λ (b : Bool). AreDistinct (cond b (x ∷ filter t xs) (filter t xs))) (sym is) (absent_left t (key_of x) xs none, d)
-distinct_step false t x xs is none d = subst (λ (b : Bool). AreDistinct (cond b (x ∷ filter t xs) (filter t xs))) (sym is) d
-
 distinct_left : (t : Entry → Bool) (xs : List Entry) → AreDistinct xs → AreDistinct (filter t xs)
 distinct_left t [] d = tt
-distinct_left t (x ∷ xs) d = distinct_step (t x) t x xs refl d.0 (distinct_left t xs d.1)
+distinct_left t (x ∷ xs) d =
+    let left = distinct_left t xs d.1 in
+    cond_both (t x) (x ∷ filter t xs) (filter t xs) AreDistinct
+    (λ is. (absent (key_of x) (filter t xs) (All-filter t (λ y. is_same (key_of x) (key_of y) ≡ false) xs (others (key_of x) xs d.0)), left)) (λ is. left)
 
 distinct_changed : (k : KeptList) (c : Change) → AreDistinct k.pairs → IsNew k c → AreDistinct (changed k c).pairs
 distinct_changed k (Keep e) d new = distinct_drop (length (k.pairs ++ e ∷ []) - k.most) (k.pairs ++ e ∷ []) (distinct_more k.pairs e d new)
@@ -102,26 +100,19 @@ distinct_after k (c ∷ cs) d new = distinct_after (changed k c) cs (distinct_ch
 abbrev stay : Removal → Entry → Bool
 stay r e = not (is_named r.mid r.ranges (key_of e))
 
-named_step : (b s : Bool) (r : Removal) (key : RequestKey) (x : Entry) (xs : List Entry) → is_named r.mid r.ranges (key_of x) ≡ b → is_same key (key_of x) ≡ s → is_named r.mid r.ranges key ≡ true → bytes_for key (filter (stay r) xs) ≡ None
-    → bytes_for key (cond (stay r x) (x ∷ filter (stay r) xs) (filter (stay r) xs)) ≡ None
-named_step true s r key x xs is same named none = rw is none
-named_step false false r key x xs is same named none = rw (is, same) none
-named_step false true r key x xs is same named none =
-    let clash : true ≡ false = sym named ∙ ap (is_named r.mid r.ranges) (same_key key (key_of x) same) ∙ is in
-    absurd cc
+-- two keys are not the same where one of them is named
+differ : (r : Removal) (key : RequestKey) (x : Entry) (b : Bool) → is_named r.mid r.ranges key ≡ b → is_named r.mid r.ranges (key_of x) ≡ not b → is_same key (key_of x) ≡ false
+differ r key x b named other = search (rules, other_key)
 
 pub named_is_gone : (r : Removal) (key : RequestKey) (es : List Entry) → is_named r.mid r.ranges key ≡ true → bytes_for key (filter (stay r) es) ≡ None
 named_is_gone r key [] named = refl
-named_is_gone r key (x ∷ xs) named = named_step (is_named r.mid r.ranges (key_of x)) (is_same key (key_of x)) r key x xs refl refl named (named_is_gone r key xs named)
-
-other_step : (b s : Bool) (r : Removal) (key : RequestKey) (x : Entry) (xs : List Entry) → is_named r.mid r.ranges (key_of x) ≡ b → is_same key (key_of x) ≡ s → is_named r.mid r.ranges key ≡ false → bytes_for key (filter (stay r) xs) ≡ bytes_for key xs
-    → bytes_for key (cond (stay r x) (x ∷ filter (stay r) xs) (filter (stay r) xs)) ≡ cond (is_same key (key_of x)) (Some x.bytes) (bytes_for key xs)
-other_step false s r key x xs is same named so = rw is (ap (λ (o : Option (List ℕ)). cond (is_same key (key_of x)) (Some x.bytes) o) so)
-other_step true false r key x xs is same named so = rw (is, same) so
-other_step true true r key x xs is same named so =
-    let clash : false ≡ true = sym named ∙ ap (is_named r.mid r.ranges) (same_key key (key_of x) same) ∙ is in
-    absurd cc
+named_is_gone r key (x ∷ xs) named =
+    let gone = named_is_gone r key xs named in
+    cond_both (stay r x) (x ∷ filter (stay r) xs) (filter (stay r) xs) (λ l. bytes_for key l ≡ None) (λ is. rw (differ r key x true named (not-true (is_named r.mid r.ranges (key_of x)) is)) gone) (λ is. gone)
 
 pub other_stays : (r : Removal) (key : RequestKey) (es : List Entry) → is_named r.mid r.ranges key ≡ false → bytes_for key (filter (stay r) es) ≡ bytes_for key es
 other_stays r key [] named = refl
-other_stays r key (x ∷ xs) named = other_step (is_named r.mid r.ranges (key_of x)) (is_same key (key_of x)) r key x xs refl refl named (other_stays r key xs named)
+other_stays r key (x ∷ xs) named =
+    let stays = other_stays r key xs named in
+    cond_both (stay r x) (x ∷ filter (stay r) xs) (filter (stay r) xs) (λ l. bytes_for key l ≡ bytes_for key (x ∷ xs)) (λ is. ap (λ (o : Option (List ℕ)). cond (is_same key (key_of x)) (Some x.bytes) o) stays)
+    (λ is. rw (differ r key x false named (not-false (is_named r.mid r.ranges (key_of x)) is)) stays)

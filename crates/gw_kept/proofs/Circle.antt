@@ -5,10 +5,6 @@ use Rattle.gw_kept.specs.Order.{number_at, place_of}
 pub place_back : (first place : ℕ) → first < 2 ^ 16 → place < 2 ^ 16 → place_of first (number_at first place) ≡ place
 place_back first place h l = omega arith
 
--- the only number that leads from the first to this one
-pub place_is : (first number place : ℕ) → first < 2 ^ 16 → place < 2 ^ 16 → (place + first) % 2 ^ 16 ≡ number → place ≡ place_of first number
-place_is first number place h l e = omega arith
-
 -- the next first, and the place before
 pub number_next : (first next place : ℕ) → first < 2 ^ 16 → 0 < place → next ≡ (first + 1) % 2 ^ 16 → number_at first place ≡ number_at next (place - 1)
 number_next first next place h l e = omega arith

@@ -1,14 +1,14 @@
 -- What ranges name, range by range, and what is left of a row without it.
-use Rattle.std.proofs.Common.{◌≡◌, ℕ, zero, suc, ◌+◌, ◌<◌, ◌≤◌, ◌&&◌, ◌||◌, not, Bool, true, false, cond, bytes_eq, List, [], ◌∷◌, ◌++◌, map, length, take, set, get_or, Option, Some, None, refl, ap, sym, ◌∙◌, arith}
-use Rattle.std.proofs.lemmas.List.{take_more, take_all}
+use Rattle.std.proofs.Common.{◌≡◌, ℕ, zero, suc, ◌+◌, ◌<◌, ◌≤◌, ◌&&◌, ◌||◌, not, Bool, true, false, cond, bytes_eq, List, [], ◌∷◌, ◌++◌, map, length, take, get_or, Option, Some, None, refl, ap, sym, ◌∙◌, arith}
+use Rattle.std.proofs.lemmas.List.{take_more}
 use Rattle.std.specs.List.{filter}
 use Rattle.std.specs.Option.{option_map}
 use Rattle.gw_msg.specs.declared.message.AckRange.{AckRange}
 use Rattle.gw_kept.specs.declared.entry.Entry.{Entry}
 use Rattle.gw_kept.specs.declared.entry.RequestKey.{RequestKey}
-use Rattle.gw_kept.specs.Pairs.{key_of, kept_list}
-use Rattle.gw_kept.specs.Forgotten.{is_within, is_acknowledged, is_named, forgotten}
-use Rattle.gw_kept.specs.Rows.{Gapped, present, kept_in, keys_in, left_of}
+use Rattle.gw_kept.specs.Pairs.{key_of}
+use Rattle.gw_kept.specs.Forgotten.{is_within, is_acknowledged, is_named}
+use Rattle.gw_kept.specs.Rows.{present, keys_in, left_of}
 use Rattle.gw_kept.proofs.Filters.{few_left}
 
 -- ---- one range more
@@ -22,25 +22,15 @@ acknowledged_more id [] range = refl
 acknowledged_more id (r ∷ rs) range =
     ap (λ (b : Bool). is_within id r || b) (acknowledged_more id rs range) ∙ or_assoc (is_within id r) (is_acknowledged id rs) (is_acknowledged id (range ∷ []))
 
-and_or : (a b c : Bool) → (a && (b || c)) ≡ ((a && b) || (a && c))
-and_or true b c = refl
-and_or false b c = refl
-
 named_more : (mid : List ℕ) (ranges : List AckRange) (range : AckRange) (key : RequestKey) → is_named mid (ranges ++ range ∷ []) key ≡ (is_named mid ranges key || is_named mid (range ∷ []) key)
-named_more mid ranges range key =
-    ap (λ (b : Bool). bytes_eq key.mid mid && b) (acknowledged_more key.id ranges range) ∙ and_or (bytes_eq key.mid mid) (is_acknowledged key.id ranges) (is_acknowledged key.id (range ∷ []))
+named_more mid ranges range key = grind (arith, acknowledged_more)
 
 pub named_next : (mid : List ℕ) (ranges : List AckRange) (i : ℕ) (range : AckRange) (key : RequestKey) → i < length ranges → range ≡ get_or ranges i range → is_named mid (take (i + 1) ranges) key ≡ (is_named mid (take i ranges) key || is_named mid (range ∷ []) key)
-named_next mid ranges i range key l read =
-    ap (λ (rs : List AckRange). is_named mid rs key) (take_more ranges i range l ∙ ap (λ (r : AckRange). take i ranges ++ r ∷ []) (sym read)) ∙ named_more mid (take i ranges) range key
+named_next mid ranges i range key l read = grind (arith, take_more, named_more)
 
 and_false : (a : Bool) → (a && false) ≡ false
 and_false true = refl
 and_false false = refl
-
-or_false : (a : Bool) → (a || false) ≡ a
-or_false true = refl
-or_false false = refl
 
 pub named_by_none : (mid : List ℕ) (key : RequestKey) → is_named mid [] key ≡ false
 named_by_none mid key = and_false (bytes_eq key.mid mid)
@@ -80,12 +70,6 @@ pub present_left : (mid : List ℕ) (ranges : List AckRange) (row : List (Option
 present_left mid ranges [] = refl
 present_left mid ranges (None ∷ os) = present_left mid ranges os
 present_left mid ranges (Some e ∷ os) = present_step (is_named mid ranges (key_of e)) e (map (left_of mid ranges) os) (filter (λ e. not (is_named mid ranges (key_of e))) (present os)) (present_left mid ranges os)
-
-pub all_forgotten : (g next : Gapped) (mid : List ℕ) (ranges : List AckRange) (i : ℕ) → next.row ≡ map (left_of mid (take i ranges)) g.row → next.most ≡ g.most → length ranges ≤ i → kept_in next ≡ forgotten (kept_in g) mid ranges
-all_forgotten g next mid ranges i is most all =
-    ap (λ (m : ℕ). kept_list (present next.row) m) most
-    ∙ ap (λ (r : List (Option Entry)). kept_list (present r) g.most) (is ∙ ap (λ (rs : List AckRange). map (left_of mid rs) g.row) (take_all i ranges all))
-    ∙ ap (λ (es : List Entry). kept_list es g.most) (present_left mid ranges g.row)
 
 pub few_left_of : (mid : List ℕ) (ranges : List AckRange) (row : List (Option Entry)) → length (present (map (left_of mid ranges) row)) ≤ length (present row)
 few_left_of mid ranges row = omega (arith, ap length (present_left mid ranges row), few_left (λ (e : Entry). not (is_named mid ranges (key_of e))) (present row))

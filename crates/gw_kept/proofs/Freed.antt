@@ -1,5 +1,6 @@
 -- Pairs that were freed, those that stand together in the order: what is left in the row and in the order.
-use Rattle.std.proofs.Common.{◌≡◌, ◌≢◌, ℕ, ◌+◌, ◌-◌, ◌<◌, ◌≤◌, ◌&&◌, nat_le, nat_lt, Bool, true, false, cond, List, [], ◌∷◌, ◌++◌, map, length, take, drop, set, get_or, is_some, Option, Some, None, refl, ap, sym, subst, ◌∙◌, Ok, suc, length-append, length-drop, arith}
+use Rattle.std.proofs.lemmas.Grind.{common_steps}
+use Rattle.std.proofs.Common.{◌≡◌, ◌≢◌, ℕ, ◌+◌, ◌-◌, ◌<◌, ◌≤◌, ◌&&◌, nat_le, nat_lt, Bool, true, false, cond, List, [], ◌∷◌, map, length, take, drop, set, get_or, is_some, Option, Some, None, refl, ap, sym, subst, ◌∙◌, Ok, suc, length-append, length-drop, arith}
 use Rattle.std.proofs.lemmas.Bool.Decides.{nat_tests}
 use Rattle.std.proofs.lemmas.List.{ext_get_or, get_or_default, get_or_append_left, get_or-append_right, get_or-drop, get_or-map, get_or-set_same, get_or-set_other, get_or-take, length-map, length-set, length-take-le, map-append, take-map, drop-map}
 use Rattle.std.proofs.lemmas.List.Elements.{Contains-append_left, Contains-append_right}
@@ -13,7 +14,7 @@ use Rattle.gw_kept.specs.Forgotten.{is_named}
 use Rattle.gw_kept.specs.Rows.{present, keys_in, key_in, left_of}
 use Rattle.gw_kept.specs.Order.{key_cmp, number_at, place_of, IsOrder, IsSorted, IsSpan, IsStand}
 use Rattle.gw_kept.proofs.Forgetting.{keys_get}
-use Rattle.gw_kept.proofs.Lists.{below_or_not, three_ways}
+use Rattle.gw_kept.proofs.Lists.{below_or_not}
 use Rattle.gw_kept.proofs.Orders.{numbers_are, one_place, others, place_at, stand_is}
 use Rattle.gw_kept.proofs.Rows.{present_gap, taken_below}
 
@@ -56,10 +57,7 @@ left_at xs i j k le within l =
     })
 
 left_rises : (xs : List ℕ) (i j a b : ℕ) (u : IsLeft xs i j a) (v : IsLeft xs i j b) → i ≤ j → a < b → u.at < v.at
-left_rises xs i j a b u v le lt =
-    below_or_not a i (u.at < v.at)
-    (λ l. below_or_not b i (u.at < v.at) (λ m. omega (arith, u.below l, v.below m)) (λ m. omega (arith, u.below l, v.above m)))
-    (λ l. omega (arith, u.above l, v.above (omega arith)))
+left_rises xs i j a b u v le lt = grind (arith, common_steps)
 
 still_there : (xs : List ℕ) (i j k x : ℕ) → i ≤ j → j ≤ length xs → k < length xs → (i ≤ k → k < j → ⊥) → get_or xs k x ≡ x → Contains (remove_range xs i j) x
 still_there xs i j k x le within l out is =
@@ -72,8 +70,7 @@ still_there xs i j k x le within l out is =
     Contains-append_right (take i xs) (drop j xs) x (k - j, omega (arith, length-drop j xs), get_or-drop j xs (k - j) x ∙ ap (λ (n : ℕ). get_or xs n x) there ∙ is)))
 
 map_cut : (f : ℕ → ℕ) (xs : List ℕ) (i j : ℕ) → remove_range (map f xs) i j ≡ map f (remove_range xs i j)
-map_cut f xs i j =
-    ap (λ (l : List ℕ). l ++ drop j (map f xs)) (take-map f i xs) ∙ ap (λ (l : List ℕ). map f (take i xs) ++ l) (drop-map f j xs) ∙ sym (map-append f (take i xs) (drop j xs))
+map_cut f xs i j = grind (arith, take-map, drop-map, map-append)
 
 -- ---- what is left in the row
 
@@ -88,20 +85,7 @@ freed_none xs places start end le = record { size = refl; gone = λ k a b. absur
 
 pub freed_more : {X : Type 0} (before after next : List (Option X)) (places : List ℕ) (start at p : ℕ) → IsFreed before after places start at → start ≤ at → p ≡ get_or places at 0 → p < length before → next ≡ set after p None
     → IsFreed before next places start (at + 1)
-freed_more {X} before after next places start at p f le is within made =
-    let here : get_or next p None ≡ None = ap (λ (xs : List (Option X)). get_or xs p None) made ∙ get_or-set_same after p None None (omega (arith, f.size, within)) in
-    let other : (q : ℕ) → q ≢ p → get_or next q None ≡ get_or after q None = λ q h. ap (λ (xs : List (Option X)). get_or xs q None) made ∙ get_or-set_other after p q None None h in
-    record {
-      size = ap length made ∙ length-set after p None ∙ f.size;
-      gone = λ k a b.
-          let q : ℕ = get_or places k 0 in
-          below_or_not k at (get_or next q None ≡ None)
-          (λ less.
-          three_ways q p (get_or next q None ≡ None) (λ l. other q (λ e. omega arith) ∙ f.gone k a less) (λ e. ap (λ (n : ℕ). get_or next n None) e ∙ here)
-          (λ l. other q (λ e. omega arith) ∙ f.gone k a less))
-          (λ more. let e : k ≡ at = omega arith in ap (λ (n : ℕ). get_or next n None) (ap (λ (n : ℕ). get_or places n 0) e ∙ sym is) ∙ here);
-      rest = λ q out. other q (λ e. out at le (omega arith) (sym (e ∙ is))) ∙ f.rest q (λ k a b. out k a (omega arith));
-    }
+freed_more {X} before after next places start at p f le is within made = grind (arith, get_or-set_same, get_or-set_other, length-set)
 
 -- one pair more that stands in the order, and one pair less in the row
 pub freed_next : (before after next : List (Option Entry)) (first : ℕ) (numbers : List ℕ) (start at p : ℕ) (o : IsOrder (keys_in before) first numbers) → IsFreed before after o.places start at × (length (present after) + at ≡ length (present before) + start) → start ≤ at
@@ -121,11 +105,7 @@ freed_next before after next first numbers start at p o f le l is made =
     is_there (Some x) e = refl
 
 pub freed_keys : (row next : List (Option Entry)) (places : List ℕ) (start end : ℕ) → IsFreed row next places start end → IsFreed (keys_in row) (keys_in next) places start end
-freed_keys row next places start end f = record {
-  size = length-map next (option_map key_of) ∙ f.size ∙ sym (length-map row (option_map key_of));
-  gone = λ k a b. keys_get next (get_or places k 0) ∙ ap (option_map key_of) (f.gone k a b);
-  rest = λ p out. keys_get next p ∙ ap (option_map key_of) (f.rest p out) ∙ sym (keys_get row p);
-}
+freed_keys row next places start end f = grind (arith, length-map, keys_get)
 
 -- ---- what is left in the order
 

@@ -1,20 +1,9 @@
 -- Lists of which each pair, or each item, has a property: with one more item, and with other items in place of these.
-use Rattle.std.proofs.Common.{◌≡◌, ℕ, zero, suc, ◌+◌, ◌-◌, ◌<◌, ◌≤◌, List, [], ◌∷◌, ◌++◌, map, length, take, drop, get_or, true, is_some, is_ok, Option, Some, None, Result, Ok, Err, refl, ap, sym, subst, ◌∙◌, add-one, arith, inl, inr}
-use Rattle.std.specs.Option.{OnSome}
-use Rattle.std.specs.Result.{OnErr, OnOk}
-use Rattle.std.specs.List.{All, AllPairs, Contains, insert, remove}
+use Rattle.std.proofs.Common.{◌≡◌, ℕ, zero, suc, ◌+◌, ◌-◌, ◌<◌, ◌≤◌, List, [], ◌∷◌, ◌++◌, map, length, take, drop, get_or, refl, ap, sym, subst, ◌∙◌, add-one, arith, inl, inr}
+use Rattle.std.specs.List.{All, AllPairs, Contains, insert}
 use Rattle.std.proofs.lemmas.List.{get_or-map, length-map, take-append-drop, take-map, drop-map, map-append}
 use Rattle.std.proofs.lemmas.List.Edits.{get_or-insert_below, get_or-insert_at, get_or-insert_above, length-insert}
 use Rattle.std.proofs.lemmas.List.Elements.{All-append, All-cons, All-take, All-drop, Contains-append_cases, Contains-append_left, Contains-append_right}
-
--- what holds of a call that succeeds
-pub of_some : {T P : Type 0} (o : Option T) → OnSome o P → is_some o ≡ true → P
-of_some (Some x) p h = p
-of_some None p h = absurd cc
-
-pub of_ok : {T E P Q : Type 0} (r : Result T E) → OnOk r P → OnErr r Q → (Q → ⊥) → P
-of_ok (Ok x) p q f = p
-of_ok (Err e) p q f = absurd (f q)
 
 pub below_or_not : (i j : ℕ) (P : Type 0) → (i < j → P) → (j ≤ i → P) → P
 below_or_not zero zero P f g = g (omega arith)
@@ -70,9 +59,6 @@ module _ {X : Type 0} where
   pub all_pairs_weaker : (P : X → Type 0) (R S : X → X → Type 0) (xs : List X) → All P xs → ((x y : X) → P x → P y → R x y → S x y) → AllPairs R xs → AllPairs S xs
   all_pairs_weaker P R S xs all f pairs i j d lt within = f (get_or xs i d) (get_or xs j d) (all i d (omega arith)) (all j d within) (pairs i j d lt within)
 
-  pub all_weaker_here : (P Q : X → Type 0) (xs : List X) → ((x : X) → P x → Q x) → All P xs → All Q xs
-  all_weaker_here P Q xs f all i d within = f (get_or xs i d) (all i d within)
-
 pub all_pairs_map : {X Y : Type 0} (f : X → Y) (R : Y → Y → Type 0) (xs : List X) → AllPairs (λ x y. R (f x) (f y)) xs → AllPairs R (map f xs)
 all_pairs_map f R [] pairs i j d lt within = absurd (omega arith)
 all_pairs_map f R (x ∷ xs) pairs i j d lt within =
@@ -88,9 +74,7 @@ map_agree f g (x ∷ xs) all =
     ap (λ y. y ∷ map f xs) (all 0 x (omega arith)) ∙ ap (λ ys. g x ∷ ys) tail
 
 pub map_insert : {X Y : Type 0} (f : X → Y) (xs : List X) (i : ℕ) (y : X) → insert (map f xs) i (f y) ≡ map f (insert xs i y)
-map_insert f xs i y =
-    ap (λ l. l ++ f y ∷ drop i (map f xs)) (take-map f i xs) ∙ ap (λ l. map f (take i xs) ++ f y ∷ l) (drop-map f i xs) ∙ sym (map-append f (take i xs) (y ∷ drop i xs))
+map_insert f xs i y = grind (arith, take-map, drop-map, map-append)
 
-pub map_map : {X Y Z : Type 0} (f : X → Y) (g : Y → Z) (xs : List X) → map g (map f xs) ≡ map (λ x. g (f x)) xs
-map_map f g [] = refl
-map_map f g (x ∷ xs) = ap (λ ys. g (f x) ∷ ys) (map_map f g xs)
+pub contains_map : (f : ℕ → ℕ) (xs : List ℕ) (p q : ℕ) → f p ≡ q → Contains xs p → Contains (map f xs) q
+contains_map f xs p q e c = (c.0, omega (arith, length-map xs f, c.1), get_or-map f xs c.0 p q c.1 ∙ ap f c.2 ∙ e)

@@ -1,8 +1,10 @@
 -- What a search in the order of keys finds, and the order with one pair more or less.
-use Rattle.std.proofs.Common.{◌≡◌, ℕ, zero, suc, ◌+◌, ◌-◌, ◌<◌, ◌%◌, ◌^◌, ◌≢◌, true, false, List, [], ◌∷◌, ◌++◌, map, length, drop, set, get_or, is_some, Option, Some, None, Result, Ok, Err, refl, ap, sym, subst, ◌∙◌, length-append, arith}
-use Rattle.std.proofs.lemmas.List.{get_or-map, get_or_default, length-map, get_or_append_left, get_or_push, length-drop, get_or-drop}
+use Rattle.std.proofs.lemmas.Grind.{common_steps}
+use Rattle.std.proofs.Common.{◌≡◌, ℕ, ◌+◌, ◌-◌, ◌<◌, ◌%◌, ◌^◌, ◌≢◌, true, false, List, [], ◌∷◌, ◌++◌, map, length, drop, set, get_or, is_some, Option, Some, None, Result, Ok, Err, refl, ap, sym, subst, ◌∙◌, length-append, arith}
+use Rattle.std.proofs.lemmas.List.{get_or_default, length-map, get_or_append_left, get_or_push, length-drop, get_or-drop}
 use Rattle.std.proofs.lemmas.List.Edits.{length-insert}
-use Rattle.std.proofs.lemmas.List.Elements.{All-map}
+use Rattle.std.proofs.lemmas.Simd.{map-map}
+use Rattle.std.proofs.lemmas.List.Elements.{All-map, All-weaker}
 use Rattle.std.proofs.lemmas.List.Sorted.{searchable_from_sorted}
 use Rattle.std.specs.Cmp.{tied_itself}
 use Rattle.std.specs.List.{Contains, insert}
@@ -14,10 +16,10 @@ use Rattle.std.specs.declared.cmp.Ordering.TheVariants.{Less, Equal, Greater}
 use Rattle.gw_kept.specs.declared.entry.RequestKey.{RequestKey}
 use Rattle.gw_kept.specs.Rows.{present, key_in, most_places}
 use Rattle.gw_kept.specs.Order.{key_cmp, key_total, number_at, place_of, Before, IsTaken, IsSorted, IsOrder, IsStand}
-use Rattle.gw_kept.proofs.Circle.{place_back, number_next, next_around}
-use Rattle.gw_kept.proofs.Lists.{three_ways, below_or_not, all_insert, contains_insert, contains_itself, all_pairs_insert, all_pairs_weaker, all_weaker_here, all_pairs_map, map_agree, map_map, map_insert}
+use Rattle.gw_kept.proofs.Circle.{number_next, next_around}
+use Rattle.gw_kept.proofs.Lists.{contains_map, three_ways, below_or_not, all_insert, contains_insert, contains_itself, all_pairs_insert, all_pairs_weaker, all_pairs_map, map_agree, map_insert}
 use Rattle.gw_kept.proofs.Places.{key_test, same_key}
-use Rattle.gw_kept.proofs.Rows.{present_append, present_behind, taken_below, key_default, key_is}
+use Rattle.gw_kept.proofs.Rows.{present_append, present_behind, taken_below, key_default}
 
 -- ---- the order of keys
 
@@ -36,7 +38,7 @@ nobody : RequestKey
 nobody = record { mid = []; id = 0 }
 
 apart : (keys : List (Option RequestKey)) (p q : ℕ) (d : RequestKey) → Before keys p q → key_in keys p d ≡ key_in keys q d → ⊥
-apart keys p q d less same = let equal : key_cmp (key_in keys p d) (key_in keys q d) ≡ Equal = ties_itself (key_in keys p d) (key_in keys q d) same in let l = less d in absurd cc
+apart keys p q d less same = grind (arith, ties_itself)
 
 differ : (keys : List (Option RequestKey)) (p q : ℕ) → Before keys p q → p ≢ q
 differ keys p q before e = apart keys p q nobody before (ap (λ (n : ℕ). key_in keys n nobody) e)
@@ -63,10 +65,7 @@ pub numbers_are : (keys : List (Option RequestKey)) (first : ℕ) (numbers : Lis
 numbers_are keys first numbers o = ap length o.numbered ∙ length-map o.places (number_at first)
 
 pub place_at : (keys : List (Option RequestKey)) (first : ℕ) (numbers : List ℕ) (o : IsOrder keys first numbers) (i d : ℕ) → i < length o.places → place_of first (get_or numbers i d) ≡ get_or o.places i 0
-place_at keys first numbers o i d l =
-    let within : get_or o.places i 0 < length keys = taken_below keys (get_or o.places i 0) (o.sorted.within i 0 l) in
-    ap (place_of first) (ap (λ (ns : List ℕ). get_or ns i d) o.numbered ∙ get_or-map (number_at first) o.places i 0 d l)
-    ∙ place_back first (get_or o.places i 0) o.around (omega (arith, within, o.few))
+place_at keys first numbers o i d l = grind (arith, common_steps)
 
 key_at : (keys : List (Option RequestKey)) (first : ℕ) (numbers : List ℕ) (o : IsOrder keys first numbers) (key : RequestKey) (i d : ℕ) → i < length o.places → key_in keys (place_of first (get_or numbers i d)) key ≡ key_in keys (get_or o.places i 0) key
 key_at keys first numbers o key i d l = ap (λ (n : ℕ). key_in keys n key) (place_at keys first numbers o i d l)
@@ -133,31 +132,16 @@ behind_all keys first numbers key i number o last read less =
     )
 
 pub stand_is : (keys : List (Option RequestKey)) (places : List ℕ) (key : RequestKey) (i : ℕ) → IsSorted keys places → IsStand keys places key (Ok i) → get_or keys (get_or places i 0) None ≡ Some key
-stand_is keys places key i sorted stand = key_is keys (get_or places i 0) key (sorted.within i 0 stand.0) ∙ ap (λ (k : RequestKey). Some k) stand.1
-
-pub found : (keys : List (Option RequestKey)) (first : ℕ) (numbers : List ℕ) (key : RequestKey) (i number place : ℕ) → (o : IsOrder keys first numbers) → IsStand keys o.places key (Ok i) → number ≡ get_or numbers i number → place ≡ place_of first number → get_or keys place None ≡ Some key
-found keys first numbers key i number place o stand read is =
-    let at : place ≡ get_or o.places i 0 = is ∙ ap (place_of first) read ∙ place_at keys first numbers o i number stand.0 in
-    ap (λ (n : ℕ). get_or keys n None) at ∙ stand_is keys o.places key i o.sorted stand
+stand_is keys places key i sorted stand = grind (arith, common_steps)
 
 pub not_found : (keys : List (Option RequestKey)) (places : List ℕ) (key : RequestKey) (i : ℕ) → IsSorted keys places → IsStand keys places key (Err i) → (p : ℕ) → get_or keys p None ≢ Some key
-not_found keys places key i sorted stand p e =
-    let b = sorted.whole p (ap is_some e) in
-    let equal : key_cmp (key_in keys (get_or places b.0 p) key) key ≡ Equal =
-    ties_itself (key_in keys (get_or places b.0 p) key) key (ap (λ (n : ℕ). key_in keys n key) b.2 ∙ ap (λ (m : Option RequestKey). unwrap_or m key) e) in
-    below_or_not b.0 i ⊥ (λ l. let less = stand.1.0 b.0 p (omega arith) l in absurd cc) (λ l. let more = stand.1.1 b.0 p l b.1 in absurd cc)
+not_found keys places key i sorted stand p e = grind (arith, ties_itself)
 
 -- each number is that of a place
 pub place_below : (keys : List (Option RequestKey)) (first : ℕ) (numbers : List ℕ) (i d : ℕ) → IsOrder keys first numbers → i < length numbers → place_of first (get_or numbers i d) < length keys
 place_below keys first numbers i d o l =
     let m : i < length o.places = omega (arith, numbers_are keys first numbers o) in
     subst (λ (p : ℕ). p < length keys) (sym (place_at keys first numbers o i d m)) (taken_below keys (get_or o.places i 0) (o.sorted.within i 0 m))
-
--- a key that no pair has is not found
-pub found_none : (keys : List (Option RequestKey)) (places : List ℕ) (key : RequestKey) (i : ℕ) → IsSorted keys places → IsStand keys places key (Ok i) → ((p : ℕ) → get_or keys p None ≢ Some key) → ⊥
-found_none keys places key i sorted stand none = none (get_or places i 0) (stand_is keys places key i sorted stand)
-
--- ---- no pairs
 
 -- ---- one more pair, behind the others
 
@@ -173,7 +157,7 @@ sorted_more keys places key i sorted stand =
     let last_is : get_or more (length keys) None ≡ Some key = get_or_push keys (Some key) None (length keys) refl in
     let last : (d : RequestKey) → key ≡ key_in more (length keys) d = λ d. sym (ap (λ (o : Option RequestKey). unwrap_or o d) last_is) in
     record {
-      within = all_insert (IsTaken more) places i (length keys) (all_weaker_here (IsTaken keys) (IsTaken more) places (λ p l. ap is_some (sym (here p (taken_below keys p l))) ∙ l) sorted.within) (ap is_some last_is);
+      within = all_insert (IsTaken more) places i (length keys) (All-weaker (IsTaken keys) (IsTaken more) (λ p l. ap is_some (sym (here p (taken_below keys p l))) ∙ l) places sorted.within) (ap is_some last_is);
       whole =
           λ p l. three_ways p (length keys) (Contains (insert places i (length keys)) p)
           (λ less. contains_insert places i (length keys) p (sorted.whole p (ap is_some (here p less) ∙ l)))
@@ -221,39 +205,29 @@ others keys places i j sorted li lj other e =
 
 -- ---- without a gap in front
 
-contains_before : (places : List ℕ) (p : ℕ) → Contains places (p + 1) → Contains (map (λ q. q - 1) places) p
-contains_before places p c =
-    let e : p + 1 - 1 ≡ p = omega arith in
-    (c.0, omega (arith, length-map places (λ q. q - 1), c.1), get_or-map (λ q. q - 1) places c.0 (p + 1) p c.1 ∙ ap (λ (q : ℕ). q - 1) c.2 ∙ e)
-
-positive : (p : ℕ) → (p ≡ 0 → ⊥) → 0 < p
-positive zero f = absurd (f refl)
-positive (suc p) f = omega arith
+-- the keys stand in their order still where each has moved
+pub sorted_moved : (keys other : List (Option RequestKey)) (places : List ℕ) (f : ℕ → ℕ) → IsSorted keys places → ((p : ℕ) → IsTaken keys p → get_or other (f p) None ≡ get_or keys p None)
+    → ((q : ℕ) → IsTaken other q → (p : ℕ) × IsTaken keys p × (f p ≡ q)) → IsSorted other (map f places)
+sorted_moved keys other places f sorted moved back = record {
+  within = All-map (IsTaken other) f places (All-weaker (IsTaken keys) (λ p. IsTaken other (f p)) (λ p h. ap is_some (moved p h) ∙ h) places sorted.within);
+  whole = λ q t. let r = back q t in contains_map f places r.0 q r.2 (sorted.whole r.0 r.1);
+  rises =
+      all_pairs_map f (Before other) places
+      (all_pairs_weaker (IsTaken keys) (Before keys) (λ p q. Before other (f p) (f q)) places sorted.within
+      (λ p q hp hq before d.
+      ap (λ (o : Option RequestKey). key_cmp (unwrap_or o d) (key_in other (f q) d)) (moved p hp)
+      ∙ ap (λ (o : Option RequestKey). key_cmp (key_in keys p d) (unwrap_or o d)) (moved q hq) ∙ before d)
+      sorted.rises);
+}
 
 taken_later : (keys : List (Option RequestKey)) (p : ℕ) → get_or keys 0 None ≡ None → IsTaken keys p → 0 < p
-taken_later keys p gap taken =
-    positive p
-    (λ e.
-    let clash : true ≡ false = sym taken ∙ ap (λ (n : ℕ). is_some (get_or keys n None)) e ∙ ap is_some gap in
-    absurd cc)
+taken_later keys p gap taken = grind (arith, common_steps)
 
 sorted_behind : (keys : List (Option RequestKey)) (places : List ℕ) → IsSorted keys places → get_or keys 0 None ≡ None → IsSorted (drop 1 keys) (map (λ p. p - 1) places)
 sorted_behind keys places sorted gap =
-    let moved : (p : ℕ) → 0 < p → get_or keys p None ≡ get_or (drop 1 keys) (p - 1) None =
-    λ p h. let e : 1 + (p - 1) ≡ p = omega arith in sym (get_or-drop 1 keys (p - 1) None ∙ ap (λ (q : ℕ). get_or keys q None) e) in
-    let next : (p : ℕ) → get_or (drop 1 keys) p None ≡ get_or keys (p + 1) None =
-    λ p. let e : 1 + p ≡ p + 1 = omega arith in get_or-drop 1 keys p None ∙ ap (λ (q : ℕ). get_or keys q None) e in
-    record {
-      within = All-map (IsTaken (drop 1 keys)) (λ p. p - 1) places (all_weaker_here (IsTaken keys) (λ p. IsTaken (drop 1 keys) (p - 1)) places (λ p h. ap is_some (sym (moved p (taken_later keys p gap h))) ∙ h) sorted.within);
-      whole = λ p t. contains_before places p (sorted.whole (p + 1) (ap is_some (sym (next p)) ∙ t));
-      rises =
-          all_pairs_map (λ p. p - 1) (Before (drop 1 keys)) places
-          (all_pairs_weaker (IsTaken keys) (Before keys) (λ p q. Before (drop 1 keys) (p - 1) (q - 1)) places sorted.within
-          (λ p q hp hq before d.
-          ap (λ (o : Option RequestKey). key_cmp (unwrap_or o d) (key_in (drop 1 keys) (q - 1) d)) (sym (moved p (taken_later keys p gap hp)))
-          ∙ ap (λ (o : Option RequestKey). key_cmp (key_in keys p d) (unwrap_or o d)) (sym (moved q (taken_later keys q gap hq))) ∙ before d)
-          sorted.rises);
-    }
+    sorted_moved keys (drop 1 keys) places (λ p. p - 1) sorted
+    (λ p h. let e : 1 + (p - 1) ≡ p = omega (arith, taken_later keys p gap h) in get_or-drop 1 keys (p - 1) None ∙ ap (λ (q : ℕ). get_or keys q None) e)
+    (λ q t. let e : q + 1 ≡ 1 + q = omega arith in (q + 1, ap is_some (ap (λ (n : ℕ). get_or keys n None) e ∙ sym (get_or-drop 1 keys q None)) ∙ t, omega arith))
 
 pub order_behind : (keys : List (Option RequestKey)) (first next : ℕ) (numbers : List ℕ) → IsOrder keys first numbers → get_or keys 0 None ≡ None → next ≡ (first + 1) % 2 ^ 16 → IsOrder (drop 1 keys) next numbers
 order_behind keys first next numbers o gap is =
@@ -262,8 +236,8 @@ order_behind keys first next numbers o gap is =
       numbered =
           o.numbered
           ∙ map_agree (number_at first) (λ p. number_at next (p - 1)) o.places
-          (all_weaker_here (IsTaken keys) (λ p. number_at first p ≡ number_at next (p - 1)) o.places (λ p h. number_next first next p o.around (taken_later keys p gap h) is) o.sorted.within)
-          ∙ sym (map_map (λ p. p - 1) (number_at next) o.places);
+          (All-weaker (IsTaken keys) (λ p. number_at first p ≡ number_at next (p - 1)) (λ p h. number_next first next p o.around (taken_later keys p gap h) is) o.places o.sorted.within)
+          ∙ sym (map-map (number_at next) (λ p. p - 1) o.places);
       sorted = sorted_behind keys o.places o.sorted gap;
       around = subst (λ (n : ℕ). n < 2 ^ 16) (sym is) (next_around first);
       few = omega (arith, length-drop 1 keys, o.few);
@@ -276,13 +250,5 @@ same_behind : (keys : List (Option RequestKey)) → drop 1 (set keys 0 None) ≡
 same_behind [] = refl
 same_behind (k ∷ ks) = refl
 
-gap_there : (keys : List (Option RequestKey)) → get_or (set keys 0 None) 0 None ≡ None
-gap_there [] = refl
-gap_there (k ∷ ks) = refl
-
-same_gap : (keys : List (Option RequestKey)) → get_or keys 0 None ≡ None → set keys 0 None ≡ keys
-same_gap [] e = refl
-same_gap (k ∷ ks) e = ap (λ (o : Option RequestKey). o ∷ ks) (sym e)
-
 pub front_left : (keys : List (Option RequestKey)) (first next : ℕ) (numbers : List ℕ) → IsOrder (set keys 0 None) first numbers → next ≡ (first + 1) % 2 ^ 16 → IsOrder (drop 1 keys) next numbers
-front_left keys first next numbers o is = subst (λ (ks : List (Option RequestKey)). IsOrder ks next numbers) (same_behind keys) (order_behind (set keys 0 None) first next numbers o (gap_there keys) is)
+front_left keys first next numbers o is = grind (arith, same_behind, order_behind)

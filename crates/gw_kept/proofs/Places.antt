@@ -1,58 +1,57 @@
 -- The place of a key's last pair: among the last so many, and with one more pair.
-use Rattle.std.proofs.Common.{◌≡◌, ℕ, zero, suc, ◌+◌, ◌==◌, ◌&&◌, nat_le, Bool, true, false, cond, List, [], ◌∷◌, ◌++◌, length, drop, bytes_eq, eqb-true, Option, Some, None, refl, ap, sym, ◌∙◌, add-one, arith, inl, inr}
-use Rattle.std.specs.Ordering.{nat_cmp, ordering_then, is_eq}
-use Rattle.std.specs.Cmp.Lexicographic.{slice_cmp}
-use Rattle.std.specs.declared.cmp.Ordering.{Ordering}
-use Rattle.std.specs.declared.cmp.Ordering.TheVariants.{Less, Equal, Greater}
-use Rattle.std.specs.Cmp.{nat_cmp_is}
-use Rattle.std.proofs.lemmas.Bool.{cases_order, eq-eqb, ne_eqb}
-use Rattle.std.proofs.lemmas.Bool.Decides.{nat_tests}
+use Rattle.std.proofs.Common.{◌≡◌, ℕ, zero, suc, ◌+◌, nat_le, Bool, true, false, cond, List, [], ◌∷◌, ◌++◌, length, drop, Option, Some, None, refl, ap, sym, ◌∙◌, add-one, arith}
+use Rattle.std.specs.Ordering.{is_eq}
+use Rattle.std.specs.List.{All}
+use Rattle.std.specs.Option.{is_some}
+use Rattle.std.proofs.lemmas.Bool.{false_from_ne_true, le-leb, lt-leb}
+use Rattle.std.proofs.lemmas.List.Elements.{All-nil, All-cons, All-head, All-tail, All-drop}
+use Rattle.std.proofs.lemmas.Option.{cond_some}
 use Rattle.std.proofs.lemmas.Map.Text.{is_eq-slice_cmp}
 use Rattle.std.proofs.lemmas.Slice.Eq.{bytes_eq-Decides}
 use Rattle.gw_kept.specs.declared.entry.RequestKey.{RequestKey}
 use Rattle.gw_kept.specs.Pairs.{is_same}
-use Rattle.gw_kept.specs.Classes.{or_here, last_place}
+use Rattle.gw_kept.specs.Classes.{or_here, last_place, has_pair}
 use Rattle.gw_kept.specs.Order.{key_cmp}
+
+-- ---- a key that no pair has
+
+none_parts : (o : Option ℕ) (t : Bool) → or_here 1 o (cond t (Some 0) None) ≡ None → (t ≡ false) × (o ≡ None)
+none_parts (Some q) t e = absurd cc
+none_parts None true e = absurd cc
+none_parts None false e = (refl, refl)
+
+pub none_behind : (key k : RequestKey) (ks : List RequestKey) → last_place key (k ∷ ks) ≡ None → (is_same k key ≡ false) × (last_place key ks ≡ None)
+none_behind key k ks e = none_parts (last_place key ks) (is_same k key) e
+
+abbrev pub Others : RequestKey → List RequestKey → Type 0
+Others key = All (λ k. is_same k key ≡ false)
+
+pub others_of : (key : RequestKey) (ks : List RequestKey) → last_place key ks ≡ None → Others key ks
+others_of key [] e = All-nil (λ k. is_same k key ≡ false)
+others_of key (k ∷ ks) e = let h = none_behind key k ks e in All-cons (λ k. is_same k key ≡ false) k ks h.0 (others_of key ks h.1)
+
+pub none_of : (key : RequestKey) (ks : List RequestKey) → Others key ks → last_place key ks ≡ None
+none_of key [] all = refl
+none_of key (k ∷ ks) all =
+    let P : RequestKey → Type 0 = λ k. is_same k key ≡ false in
+    rw (none_of key ks (All-tail P k ks all), All-head P k ks all) refl
 
 -- ---- among the last so many
 
--- a place that is not in front of the first d
-abbrev pub within : ℕ → Option ℕ → Option ℕ
-within d None = None
-within d (Some p) = cond (nat_le d p) (Some p) None
+le_suc : (d q p : ℕ) → q + 1 ≡ p → nat_le (suc d) p ≡ nat_le d q
+le_suc d q p e = grind arith
 
-some_is : (x y : ℕ) → Some x ≡ Some y → x ≡ y
-some_is x y e = cc
+among_step : (o : Option ℕ) (same b : Bool) (d p : ℕ) → ((q : ℕ) → o ≡ Some q → nat_le d q ≡ b) → (o ≡ None → b ≡ false) → or_here 1 o (cond same (Some 0) None) ≡ Some p → nat_le (suc d) p ≡ b
+among_step (Some q) same b d p some none e = le_suc d q p (let is : q + 1 ≡ p = cc in is) ∙ some q refl
+among_step None same b d p some none e = lt-leb (suc d) p (omega (arith, (cond_some same 0 p e).1)) ∙ sym (none refl)
 
-le_suc : (d p : ℕ) → nat_le (suc d) (p + 1) ≡ nat_le d p
-le_suc d p = grind (arith, nat_tests)
-
-within_some : (d p q : ℕ) (t : Bool) → Some (q + d) ≡ cond t (Some p) None → (t ≡ true) × (q + d ≡ p)
-within_some d p q true e = (refl, some_is (q + d) p e)
-within_some d p q false e = absurd cc
-
-within_none : (p : ℕ) (t : Bool) → ◌≡◌ {A = Option ℕ} None (cond t (Some p) None) → t ≡ false
-within_none p true e = absurd cc
-within_none p false e = refl
-
-within_step : (d : ℕ) (l o : Option ℕ) (same : Bool) → or_here d l None ≡ within d o → or_here (suc d) l None ≡ within (suc d) (or_here 1 o (cond same (Some 0) None))
-within_step d None None true h = let e : nat_le (suc d) 0 ≡ false = grind (arith, nat_tests) in rw e refl
-within_step d None None false h = refl
-within_step d (Some q) None same h = absurd cc
-within_step d None (Some p) same h = let f = within_none p (nat_le d p) h in rw (le_suc d p, f) refl
-within_step d (Some q) (Some p) same h =
-    let f = within_some d p q (nat_le d p) h in
-    let e : q + suc d ≡ p + 1 = omega (arith, f.1) in
-    rw (le_suc d p, f.0) (ap (λ (n : ℕ). Some n) e)
-
-within_zero : (o : Option ℕ) → or_here 0 o None ≡ within 0 o
-within_zero None = refl
-within_zero (Some p) = let e : nat_le 0 p ≡ true = grind (arith, nat_tests) in let f : p + 0 ≡ p = omega arith in rw (e, f) refl
-
-pub among_last : (key : RequestKey) (d : ℕ) (pairs : List RequestKey) → or_here d (last_place key (drop d pairs)) None ≡ within d (last_place key pairs)
-among_last key zero pairs = within_zero (last_place key pairs)
-among_last key (suc d) [] = refl
-among_last key (suc d) (k ∷ ks) = within_step d (last_place key (drop d ks)) (last_place key ks) (is_same k key) (among_last key d ks)
+-- the last pair of a key is one of those behind the first so many, or else none of these has the key
+pub among_last : (key : RequestKey) (d : ℕ) (pairs : List RequestKey) (p : ℕ) → last_place key pairs ≡ Some p → nat_le d p ≡ has_pair key (drop d pairs)
+among_last key zero pairs p e = le-leb 0 p (omega arith) ∙ sym (ap is_some e)
+among_last key (suc d) [] p e = absurd cc
+among_last key (suc d) (k ∷ ks) p e =
+    among_step (last_place key ks) (is_same k key) (has_pair key (drop d ks)) d p (among_last key d ks)
+    (λ none. ap is_some (none_of key (drop d ks) (All-drop (λ j. is_same j key ≡ false) d ks (others_of key ks none)))) e
 
 -- ---- with one more pair
 
@@ -68,55 +67,24 @@ one_more key k (p ∷ ps) =
 
 -- ---- keys that tie in the order are the same
 
-then_test : (r s : Ordering) → is_eq (ordering_then r s) ≡ (is_eq r && is_eq s)
-then_test Less s = refl
-then_test Equal s = refl
-then_test Greater s = refl
-
-pub number_test : (a b : ℕ) → is_eq (nat_cmp a b) ≡ a == b
-number_test a b =
-    elim (cases_order a b) [
-      | inl same ↦ ap is_eq (sym (nat_cmp_is a b Equal same)) ∙ sym (eq-eqb a b same)
-      | inr (inl less) ↦ ap is_eq (sym (nat_cmp_is a b Less less)) ∙ sym (ne_eqb a b (λ e. absurd (omega (arith, e))))
-      | inr (inr more) ↦ ap is_eq (sym (nat_cmp_is a b Greater more)) ∙ sym (ne_eqb a b (λ e. absurd (omega (arith, e))))
-    ]
-
-both_back : (s t : Bool) → (s && t) ≡ (t && s)
-both_back true true = refl
-both_back true false = refl
-both_back false true = refl
-both_back false false = refl
-
 pub key_test : (a b : RequestKey) → is_eq (key_cmp a b) ≡ is_same a b
-key_test a b =
-    then_test (slice_cmp nat_cmp a.mid b.mid) (nat_cmp a.id b.id)
-    ∙ ap (λ (t : Bool). is_eq (slice_cmp nat_cmp a.mid b.mid) && t) (number_test a.id b.id)
-    ∙ ap (λ (t : Bool). t && a.id == b.id) (is_eq-slice_cmp a.mid b.mid)
-    ∙ both_back (bytes_eq a.mid b.mid) (a.id == b.id)
+key_test a b = grind (arith, is_eq-slice_cmp)
 
 -- ---- keys that are the same
 
-and_parts : (s t : Bool) → (s && t) ≡ true → (s ≡ true) × (t ≡ true)
-and_parts true t e = (refl, e)
-and_parts false t e = absurd cc
-
 pub same_key : (a b : RequestKey) → is_same a b ≡ true → a ≡ b
-same_key a b e =
-    let parts = and_parts (a.id == b.id) (bytes_eq a.mid b.mid) e in
-    let id : a.id ≡ b.id = eqb-true a.id b.id parts.0 in
-    let mid : a.mid ≡ b.mid = (bytes_eq-Decides a.mid b.mid).0 parts.1 in
-    λ i. record { id = id i; mid = mid i }
+same_key a b e = grind (arith, bytes_eq-Decides)
 
 pub same_itself : (a : RequestKey) → is_same a a ≡ true
-same_itself a = let id : (a.id == a.id) ≡ true = eq-eqb a.id a.id refl in rw id ((bytes_eq-Decides a.mid a.mid).1 refl)
-
-back_true : (a b : RequestKey) → is_same a b ≡ true → is_same b a ≡ true
-back_true a b e = ap (is_same b) (same_key a b e) ∙ same_itself b
-
-same_tests : (s t : Bool) → (s ≡ true → t ≡ true) → (t ≡ true → s ≡ true) → s ≡ t
-same_tests true t f g = sym (f refl)
-same_tests false true f g = g refl
-same_tests false false f g = refl
+same_itself a = grind (arith, bytes_eq-Decides)
 
 pub same_back : (a b : RequestKey) → is_same a b ≡ is_same b a
-same_back a b = same_tests (is_same a b) (is_same b a) (back_true a b) (back_true b a)
+same_back a b = grind (arith, bytes_eq-Decides)
+
+pub other_key : (a b : RequestKey) → (a ≡ b → ⊥) → is_same a b ≡ false
+other_key a b f = false_from_ne_true (is_same a b) (λ e. f (same_key a b e))
+
+-- a key that the first pair does not have, nor any behind it
+pub absent_head : (t : Bool) (b : List ℕ) (rest : Option (List ℕ)) → cond t (Some b) rest ≡ None → (t ≡ false) × (rest ≡ None)
+absent_head true b rest e = absurd cc
+absent_head false b rest e = (refl, e)

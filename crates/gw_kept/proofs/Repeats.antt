@@ -1,10 +1,12 @@
 -- What the classes mean for the list that is kept meanwhile.
-use Rattle.std.proofs.Common.{◌≡◌, ℕ, zero, suc, ◌+◌, ◌-◌, ◌<◌, ◌≤◌, nat_lt, not, Bool, true, false, cond, List, [], ◌∷◌, ◌++◌, map, length, get_or, Option, Some, None, refl, ap, sym, subst, ◌∙◌, add-one, append_assoc, length-append, arith}
+use Rattle.std.proofs.lemmas.Grind.{common_steps}
+use Rattle.std.proofs.Common.{◌≡◌, ℕ, zero, suc, ◌+◌, ◌-◌, ◌<◌, ◌≤◌, nat_lt, not, Bool, true, false, cond, List, [], ◌∷◌, ◌++◌, map, length, get_or, Option, Some, None, refl, ap, sym, subst, ◌∙◌, add-one, append_assoc, length-append, arith, rules}
 use Rattle.std.proofs.lemmas.List.{append-nil, length-map, map-append}
 use Rattle.std.proofs.lemmas.List.Elements.{All-append, All-cons, All-nil, All-drop, All-filter}
-use Rattle.std.proofs.lemmas.Bool.Decides.{nat_tests}
+use Rattle.std.proofs.lemmas.Bool.{ltb-true, ltb-false}
 use Rattle.std.specs.List.{All, slice_get}
 use Rattle.std.specs.Option.{option_map, is_some}
+use Rattle.circular_buffer.proofs.Places.{slice_get-append_left, slice_get-append_right}
 use Rattle.gw_kept.specs.declared.entry.Entry.{Entry}
 use Rattle.gw_kept.specs.declared.entry.RequestKey.{RequestKey}
 use Rattle.gw_kept.specs.declared.class.Class.{Class}
@@ -17,9 +19,9 @@ use Rattle.gw_kept.specs.Changes.{Change, Keep, Remove, changed, kept_after, ent
 use Rattle.gw_kept.specs.Classes.{or_here, last_place, source_at, class_of, most_new}
 use Rattle.gw_kept.specs.Repeats.{class_after, bytes_of}
 use Rattle.gw_kept.proofs.Places.{one_more, same_itself}
-use Rattle.gw_kept.proofs.Found.{not_kept, IsAt, kept_at, no_place, last_is}
-use Rattle.gw_kept.proofs.Last.{at_front, at_back, key_at, stays_there, next_there}
-use Rattle.gw_kept.proofs.Changed.{absent_head, distinct_after, new_more}
+use Rattle.gw_kept.proofs.Found.{not_kept, found_at, bytes_found, no_place}
+use Rattle.gw_kept.proofs.Last.{stays_there, next_there}
+use Rattle.gw_kept.proofs.Changed.{others, distinct_after, new_more}
 
 -- ---- each pair that is kept is the last of its key among all that there were
 
@@ -36,11 +38,7 @@ last_behind x y xs l = record {
 }
 
 last_alone : (x : Entry) (xs : List Entry) → bytes_for (key_of x) xs ≡ None → IsLast (x ∷ xs) x
-last_alone x xs none = record {
-  place = 0;
-  last = ap (λ (o : Option ℕ). or_here 1 o (cond (is_same (key_of x) (key_of x)) (Some 0) None)) (no_place (key_of x) xs none) ∙ ap (λ (t : Bool). cond t (Some 0) None) (same_itself (key_of x));
-  there = refl;
-}
+last_alone x xs none = search (rules, no_place)
 
 module _ (all : List Entry) where
   all_last_behind : (x : Entry) (xs : List Entry) → All (IsLast all) xs → All (IsLast (x ∷ all)) xs
@@ -50,21 +48,8 @@ pub all_are_last : (es : List Entry) → AreDistinct es → All (IsLast es) es
 all_are_last [] d = All-nil (IsLast [])
 all_are_last (x ∷ xs) d = All-cons (IsLast (x ∷ xs)) x xs (last_alone x xs d.0) (all_last_behind xs x xs (all_are_last xs d.1))
 
-others : (key : RequestKey) (es : List Entry) → bytes_for key es ≡ None → All (λ x. is_same key (key_of x) ≡ false) es
-others key [] none = All-nil (λ x. is_same key (key_of x) ≡ false)
-others key (x ∷ xs) none =
-    let h = absent_head (is_same key (key_of x)) x.bytes (bytes_for key xs) none in
-    All-cons (λ x. is_same key (key_of x) ≡ false) x xs h.0 (others key xs h.1)
-
 last_stays : (all : List Entry) (e x : Entry) → is_same (key_of e) (key_of x) ≡ false → IsLast all x → IsLast (all ++ e ∷ []) x
-last_stays all e x other l = record {
-  place = l.place;
-  last = ap (last_place (key_of x)) (map-append key_of all (e ∷ []))
-      ∙ one_more (key_of x) (key_of e) (map key_of all)
-      ∙ ap (λ (t : Bool). cond t (Some (length (map key_of all))) (last_place (key_of x) (map key_of all))) other
-      ∙ l.last;
-  there = stays_there all (e ∷ []) l.place x l.there;
-}
+last_stays all e x other l = grind (arith, map-append, one_more, stays_there)
 
 last_now : (all : List Entry) (e : Entry) → IsLast (all ++ e ∷ []) e
 last_now all e = record {
@@ -114,15 +99,14 @@ all_at P (x ∷ xs) (suc i) e h at = all_at P xs i e (λ j d l. h (suc j) d (ome
 pub is_kept : (k : KeptList) (cs : List Change) (key : RequestKey) (q : ℕ) → AreDistinct k.pairs → AreNew k cs → last_place key (map key_of (kept_after k cs).pairs) ≡ Some q → IsKept k cs key
 is_kept k cs key q distinct new at =
     let kept : List Entry = (kept_after k cs).pairs in
-    let found : IsAt key kept q = kept_at key kept q (distinct_after k cs distinct new) at in
-    let same : key_of found.entry ≡ key = sym (key_at kept q found.entry key found.there) ∙ (last_is key (map key_of kept) q at).1 key in
+    let found = found_at key kept q at in
     let last : IsLast (k.pairs ++ entries_in cs) found.entry = all_at (IsLast (k.pairs ++ entries_in cs)) kept q found.entry (last_after k.pairs k cs (all_are_last k.pairs distinct) new) found.there in
     record {
       place = last.place;
       entry = found.entry;
-      last = ap (λ (l : RequestKey). last_place l (map key_of (k.pairs ++ entries_in cs))) (sym same) ∙ last.last;
+      last = ap (λ (l : RequestKey). last_place l (map key_of (k.pairs ++ entries_in cs))) (sym found.same) ∙ last.last;
       there = last.there;
-      bytes = found.bytes;
+      bytes = bytes_found key kept q found (distinct_after k cs distinct new);
     }
 
 -- ---- where a class comes from
@@ -138,24 +122,23 @@ abbrev among_all : KeptList → List Change → RequestKey → Option ℕ
 among_all k cs key = last_place key (map key_of (k.pairs ++ entries_in cs))
 
 class_kept : (k : KeptList) (cs : List Change) (key : RequestKey) (q : ℕ) (h : IsKept k cs key) → kept_at_point k cs key ≡ Some q → class_after k cs key ≡ Repeat (source_at (length k.pairs) h.place)
-class_kept k cs key q h at = ap (λ (o : Option ℕ). class_by k cs o (among_all k cs key)) at ∙ ap (λ (o : Option ℕ). class_by k cs (Some q) o) h.last
+class_kept k cs key q h at = grind (arith, common_steps)
 
 class_other : (k : KeptList) (cs : List Change) (key : RequestKey) → kept_at_point k cs key ≡ None → class_after k cs key ≡ class_of (length k.pairs) (map key_of (k.pairs ++ entries_in cs)) None
 class_other k cs key at = ap (λ (o : Option ℕ). class_by k cs o (among_all k cs key)) at
 
-no_repeat : (b : Bool) (s : Source) → cond b New Over ≡ Repeat s → (P : Type 0) → P
-no_repeat true s e P = absurd cc
-no_repeat false s e P = absurd cc
+no_repeat : (b : Bool) (s : Source) → cond b New Over ≡ Repeat s → ⊥
+no_repeat true s e = cc
+no_repeat false s e = cc
 
 -- ---- a repeat
 
 sourced : (t : Bool) (k : KeptList) (es : List Entry) (place : ℕ) (e : Entry) → nat_lt place (length k.pairs) ≡ t → slice_get (k.pairs ++ es) place ≡ Some e → bytes_of (cond t (source.Kept place) (source.Place (place - length k.pairs))) k es ≡ Some e.bytes
 sourced true k es place e is at =
-    let less : place < length k.pairs = grind (arith, nat_tests) in
-    ap (option_map (λ (x : Entry). x.bytes)) (sym (at_front k.pairs es place less) ∙ at)
+    ap (option_map (λ (x : Entry). x.bytes)) (sym (slice_get-append_left k.pairs es place (ltb-true place (length k.pairs) is)) ∙ at)
 sourced false k es place e is at =
-    let more : length k.pairs ≤ place = grind (arith, nat_tests) in
-    ap (option_map (λ (x : Entry). x.bytes)) (sym (at_back k.pairs es place more) ∙ at)
+    let more : length k.pairs ≤ place = ltb-false place (length k.pairs) is in
+    ap (option_map (λ (x : Entry). x.bytes)) (sym (slice_get-append_right k.pairs es place (place - length k.pairs) (omega (arith, more))) ∙ at)
 
 abbrev HasReply : KeptList → List Change → RequestKey → Source → Type 0
 HasReply k cs key source = (bytes : List ℕ) × (bytes_of source k (entries_in cs) ≡ Some bytes) × (bytes_for key (kept_after k cs).pairs ≡ Some bytes)
@@ -170,7 +153,7 @@ replied (Some q) k cs key source distinct new at e =
       h.bytes,
     )
 replied None k cs key source distinct new at e =
-    no_repeat (nat_lt (length (map key_of (k.pairs ++ entries_in cs)) - length k.pairs) most_new) source (sym (class_other k cs key at) ∙ e) (HasReply k cs key source)
+    absurd (no_repeat (nat_lt (length (map key_of (k.pairs ++ entries_in cs)) - length k.pairs) most_new) source (sym (class_other k cs key at) ∙ e))
 
 pub has_reply : (k : KeptList) (cs : List Change) (key : RequestKey) (source : Source) → AreDistinct k.pairs → AreNew k cs → class_after k cs key ≡ Repeat source → HasReply k cs key source
 has_reply k cs key source distinct new e = replied (kept_at_point k cs key) k cs key source distinct new refl e
@@ -180,19 +163,8 @@ has_reply k cs key source distinct new e = replied (kept_at_point k cs key) k cs
 came : (k : KeptList) (es : List Entry) → length (map key_of (k.pairs ++ es)) - length k.pairs ≡ length es
 came k es = omega (arith, length-map (k.pairs ++ es) key_of, length-append k.pairs es)
 
-when_new : (b : Bool) → cond b New Over ≡ New → b ≡ true
-when_new true e = refl
-when_new false e = absurd cc
-
-when_over : (b : Bool) → cond b New Over ≡ Over → b ≡ false
-when_over true e = absurd cc
-when_over false e = refl
-
-lt_is : (a b : ℕ) → nat_lt a b ≡ true → a < b
-lt_is a b e = grind (arith, nat_tests)
-
-lt_not : (a b : ℕ) → nat_lt a b ≡ false → b ≤ a
-lt_not a b e = grind (arith, nat_tests)
+pub when_new : (n : ℕ) → cond (nat_lt n most_new) New Over ≡ New → n < most_new
+when_new n e = grind arith
 
 -- the key of what is no repeat has no pair
 not_repeat : (o : Option ℕ) (c : Class) (k : KeptList) (cs : List Change) (key : RequestKey) → AreDistinct k.pairs → AreNew k cs → kept_at_point k cs key ≡ o → class_after k cs key ≡ c → ((s : Source) → c ≡ Repeat s → ⊥) → kept_at_point k cs key ≡ None
@@ -202,27 +174,13 @@ not_repeat (Some q) c k cs key distinct new at e other =
 not_repeat None c k cs key distinct new at e other = at
 
 pub new_is_not_kept : (k : KeptList) (cs : List Change) (key : RequestKey) → AreDistinct k.pairs → AreNew k cs → class_after k cs key ≡ New → (bytes_for key (kept_after k cs).pairs ≡ None) × (length (entries_in cs) < most_new)
-new_is_not_kept k cs key distinct new e =
-    let none = not_repeat (kept_at_point k cs key) New k cs key distinct new refl e (λ s f. absurd cc) in
-    let few = when_new (nat_lt (length (map key_of (k.pairs ++ entries_in cs)) - length k.pairs) most_new) (sym (class_other k cs key none) ∙ e) in
-    (not_kept key (kept_after k cs).pairs none, subst (λ (n : ℕ). n < most_new) (came k (entries_in cs)) (lt_is (length (map key_of (k.pairs ++ entries_in cs)) - length k.pairs) most_new few))
+new_is_not_kept k cs key distinct new e = grind (arith, not_repeat, not_kept, came)
 
 pub over_is_not_kept : (k : KeptList) (cs : List Change) (key : RequestKey) → AreDistinct k.pairs → AreNew k cs → class_after k cs key ≡ Over → (bytes_for key (kept_after k cs).pairs ≡ None) × (most_new ≤ length (entries_in cs))
-over_is_not_kept k cs key distinct new e =
-    let none = not_repeat (kept_at_point k cs key) Over k cs key distinct new refl e (λ s f. absurd cc) in
-    let many = when_over (nat_lt (length (map key_of (k.pairs ++ entries_in cs)) - length k.pairs) most_new) (sym (class_other k cs key none) ∙ e) in
-    (not_kept key (kept_after k cs).pairs none, subst (λ (n : ℕ). most_new ≤ n) (came k (entries_in cs)) (lt_not (length (map key_of (k.pairs ++ entries_in cs)) - length k.pairs) most_new many))
-
-never_neither : (b : Bool) → cond b New Over ≡ Nothing → ⊥
-never_neither true e = absurd cc
-never_neither false e = absurd cc
-
-never : (o : Option ℕ) (k : KeptList) (es : List RequestKey) → class_of (length k.pairs) es o ≡ Nothing → ⊥
-never (Some q) k es e = absurd cc
-never None k es e = never_neither (nat_lt (length es - length k.pairs) most_new) e
+over_is_not_kept k cs key distinct new e = grind (arith, not_repeat, not_kept, came)
 
 pub never_nothing : (k : KeptList) (cs : List Change) (key : RequestKey) → class_after k cs key ≡ Nothing → ⊥
-never_nothing k cs key e = never (cond (is_some (kept_at_point k cs key)) (among_all k cs key) None) k (map key_of (k.pairs ++ entries_in cs)) e
+never_nothing k cs key e = grind (arith, common_steps)
 
 -- the reply of a new request may be kept next
 pub next_is_new : (k : KeptList) (cs : List Change) (e : Entry) → AreDistinct k.pairs → AreNew k cs → class_after k cs (key_of e) ≡ New → AreNew k (cs ++ Keep e ∷ [])

@@ -1,5 +1,7 @@
 -- A row with gaps: what is there, and the key at a place.
-use Rattle.std.proofs.Common.{◌≡◌, ℕ, zero, suc, ◌+◌, ◌<◌, ◌≤◌, Bool, true, false, cond, List, [], ◌∷◌, ◌++◌, map, length, drop, set, get_or, is_some, Option, Some, None, refl, ap, sym, ◌∙◌, arith}
+use Rattle.std.proofs.lemmas.Grind.{common_steps}
+use Rattle.std.proofs.Common.{◌≡◌, ℕ, zero, suc, ◌+◌, ◌<◌, ◌≤◌, true, false, List, [], ◌∷◌, ◌++◌, map, length, drop, set, get_or, is_some, Option, Some, None, refl, ap, sym, ◌∙◌, arith}
+use Rattle.std.proofs.lemmas.Bool.{both_ways}
 use Rattle.std.proofs.lemmas.List.{length-map}
 use Rattle.std.specs.List.{slice_get}
 use Rattle.std.specs.Option.{option_map, unwrap_or}
@@ -9,7 +11,7 @@ use Rattle.gw_kept.specs.Pairs.{key_of, is_same, bytes_for, AreDistinct, IsBound
 use Rattle.gw_kept.specs.Classes.{last_place, has_pair}
 use Rattle.gw_kept.specs.Rows.{Gapped, gapped, present, kept_in, keys_in, key_in, IsFound}
 use Rattle.gw_kept.specs.Order.{IsTaken}
-use Rattle.gw_kept.proofs.Places.{same_key, same_itself}
+use Rattle.gw_kept.proofs.Places.{absent_head, other_key, same_itself}
 use Rattle.gw_kept.proofs.Found.{not_kept, no_place, place_is}
 
 -- ---- what is there
@@ -57,19 +59,8 @@ module _ {X : Type 0} where
 -- ---- the foremost place
 
 module _ {X : Type 0} where
-  pub present_front : (xs : List (Option X)) (x : X) → Some x ≡ get_or xs 0 None → present xs ≡ x ∷ present (drop 1 xs)
-  present_front [] x e = absurd cc
-  present_front (None ∷ xs) x e = absurd cc
-  present_front (Some y ∷ xs) x e = let same : y ≡ x = cc in ap (λ (z : X). z ∷ present xs) same
-
   pub whole_some : (xs : List X) → map (λ x. Some x) xs ≡ map (λ x. Some x) (present (map (λ x. Some x) xs))
   whole_some xs = ap (map (λ x. Some x)) (sym (present_some xs))
-
-  -- a pair that is put back where it was
-  pub set_back : (xs : List (Option X)) (p : ℕ) → xs ≡ set (set xs p None) p (get_or xs p None)
-  set_back [] p = refl
-  set_back (x ∷ xs) zero = refl
-  set_back (x ∷ xs) (suc p) = ap (λ (ys : List (Option X)). x ∷ ys) (set_back xs p)
 
   pub set_outside : (xs : List (Option X)) (p : ℕ) (o : Option X) → None ≡ slice_get xs p → xs ≡ set xs p o
   set_outside [] p o e = refl
@@ -115,45 +106,22 @@ same_default (Some k) d e h = refl
 pub key_default : (keys : List (Option RequestKey)) (p : ℕ) (d e : RequestKey) → IsTaken keys p → key_in keys p d ≡ key_in keys p e
 key_default keys p d e h = same_default (get_or keys p None) d e h
 
-there_is : (o : Option RequestKey) (d : RequestKey) → is_some o ≡ true → o ≡ Some (unwrap_or o d)
-there_is None d h = absurd cc
-there_is (Some k) d h = refl
-
-pub key_is : (keys : List (Option RequestKey)) (p : ℕ) (d : RequestKey) → IsTaken keys p → get_or keys p None ≡ Some (key_in keys p d)
-key_is keys p d h = there_is (get_or keys p None) d h
-
 -- ---- where a key's pair stands, and its bytes
-
-first_false : (t : Bool) (b : List ℕ) (rest : Option (List ℕ)) → cond t (Some b) rest ≡ None → (t ≡ false) × (rest ≡ None)
-first_false true b rest e = absurd cc
-first_false false b rest e = (refl, e)
-
-not_same : (t : Bool) (key k : RequestKey) → is_same key k ≡ t → (Some k ≡ Some key → ⊥) → t ≡ false
-not_same true key k is f = absurd (f (ap (λ (j : RequestKey). Some j) (sym (same_key key k is))))
-not_same false key k is f = refl
 
 pub nowhere_none : (key : RequestKey) (row : List (Option Entry)) → IsFound (keys_in row) key None → bytes_for key (present row) ≡ None
 nowhere_none key [] h = refl
-nowhere_none key (Some e ∷ es) h = rw (not_same (is_same key (key_of e)) key (key_of e) refl (h 0)) (nowhere_none key es (λ p. h (suc p)))
+nowhere_none key (Some e ∷ es) h = rw (other_key key (key_of e) (λ same. h 0 (ap (λ (k : RequestKey). Some k) (sym same)))) (nowhere_none key es (λ p. h (suc p)))
 nowhere_none key (None ∷ es) h = nowhere_none key es (λ p. h (suc p))
-
-some_same : (k key : RequestKey) → Some k ≡ Some key → is_same key k ≡ true
-some_same k key e = let same : k ≡ key = cc in ap (is_same key) same ∙ same_itself key
 
 pub none_nowhere : (key : RequestKey) (row : List (Option Entry)) → bytes_for key (present row) ≡ None → IsFound (keys_in row) key None
 none_nowhere key [] none p e = absurd cc
 none_nowhere key (Some x ∷ xs) none zero e =
-    let other : is_same key (key_of x) ≡ false = (first_false (is_same key (key_of x)) x.bytes (bytes_for key (present xs)) none).0 in
-    let same : is_same key (key_of x) ≡ true = some_same (key_of x) key e in
-    absurd cc
-none_nowhere key (Some x ∷ xs) none (suc p) e = none_nowhere key xs (first_false (is_same key (key_of x)) x.bytes (bytes_for key (present xs)) none).1 p e
+    let other : is_same key (key_of x) ≡ false = (absent_head (is_same key (key_of x)) x.bytes (bytes_for key (present xs)) none).0 in
+    let same : key ≡ key_of x = cc in
+    both_ways (is_same key (key_of x)) other (ap (is_same key) (sym same) ∙ same_itself key)
+none_nowhere key (Some x ∷ xs) none (suc p) e = none_nowhere key xs (absent_head (is_same key (key_of x)) x.bytes (bytes_for key (present xs)) none).1 p e
 none_nowhere key (None ∷ xs) none zero e = absurd cc
 none_nowhere key (None ∷ xs) none (suc p) e = none_nowhere key xs none p e
-
-pub absent_drop : (n : ℕ) (key : RequestKey) (es : List Entry) → bytes_for key es ≡ None → bytes_for key (drop n es) ≡ None
-absent_drop zero key es none = none
-absent_drop (suc n) key [] none = none
-absent_drop (suc n) key (x ∷ xs) none = absent_drop n key xs (first_false (is_same key (key_of x)) x.bytes (bytes_for key xs) none).1
 
 -- pairs have keys of their own where no key stands at two places
 pub distinct_row : (row : List (Option Entry)) → ((p q : ℕ) (k : RequestKey) → get_or (keys_in row) p None ≡ Some k → get_or (keys_in row) q None ≡ Some k → p ≡ q) → AreDistinct (present row)
@@ -187,7 +155,7 @@ pub same_keys : (row other : List (Option Entry)) → keys_in row ≡ keys_in ot
 same_keys row other same = sym (keys_present row) ∙ ap present same ∙ keys_present other
 
 pub bounded_few : (g : Gapped) (row : List (Option Entry)) (most : ℕ) → IsBounded (kept_in g) → length (present row) ≤ length (present g.row) → most ≡ g.most → IsBounded (kept_in (gapped row most))
-bounded_few g row most b few same = record { few = omega (arith, b.few); some = omega (arith, b.some); limit = omega (arith, b.limit) }
+bounded_few g row most b few same = grind (arith, common_steps)
 
 -- where there is no gap, a key's place is that of its last pair
 pub whole_place : (o : Option ℕ) (key : RequestKey) (row : List (Option Entry)) → row ≡ map (λ e. Some e) (present row) → AreDistinct (present row) → IsFound (keys_in row) key o → o ≡ last_place key (map key_of (present row))

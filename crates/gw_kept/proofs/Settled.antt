@@ -1,16 +1,15 @@
 -- The ring and the order of the keys when gaps are closed.
-use Rattle.std.proofs.Common.{◌≡◌, ℕ, zero, suc, ◌+◌, ◌-◌, ◌<◌, ◌≤◌, true, cond, List, [], ◌∷◌, ◌++◌, map, length, take, drop, set, get_or, is_some, Option, Some, None, refl, ap, sym, ◌∙◌, append_assoc, length-append, length-drop, arith}
-use Rattle.std.proofs.lemmas.List.{append-nil, get_or-append_right, get_or-drop, length-take-le, drop_more, take_more, take-map, get_or-map, get_or-set_same, get_or-set_other, length-map, length-take, take_all, drop_all, map-append}
-use Rattle.std.proofs.lemmas.List.Elements.{All-map}
-use Rattle.std.specs.List.{Contains}
-use Rattle.std.specs.Option.{option_map, unwrap_or}
+use Rattle.std.proofs.Common.{◌≡◌, ℕ, zero, suc, ◌+◌, ◌-◌, ◌<◌, ◌≤◌, true, cond, List, [], ◌∷◌, ◌++◌, map, length, take, drop, get_or, is_some, Option, Some, None, refl, ap, sym, ◌∙◌, append_assoc, length-append, length-drop, arith, rules}
+use Rattle.std.proofs.lemmas.List.{append-nil, drop_more, take_more, take-map, length-map, length-take, map-append}
+use Rattle.std.proofs.lemmas.Simd.{map-map}
+use Rattle.std.proofs.lemmas.List.Elements.{All-weaker}
 use Rattle.gw_kept.specs.declared.entry.Entry.{Entry}
 use Rattle.gw_kept.specs.declared.entry.RequestKey.{RequestKey}
-use Rattle.gw_kept.specs.Pairs.{key_of}
-use Rattle.gw_kept.specs.Rows.{present, keys_in, key_in, most_places}
-use Rattle.gw_kept.specs.Order.{key_cmp, number_at, place_of, Before, IsTaken, IsSorted, IsOrder}
+use Rattle.gw_kept.specs.Rows.{present, keys_in, most_places}
+use Rattle.gw_kept.specs.Order.{number_at, place_of, IsTaken, IsSorted, IsOrder}
 use Rattle.gw_kept.proofs.Circle.{place_back}
-use Rattle.gw_kept.proofs.Lists.{below_or_not, all_pairs_map, all_pairs_weaker, all_weaker_here, map_agree, map_map}
+use Rattle.gw_kept.proofs.Lists.{map_agree}
+use Rattle.gw_kept.proofs.Orders.{sorted_moved}
 use Rattle.gw_kept.proofs.Rows.{few_present, present_append, present_map, present_some, taken_below}
 
 module _ {X : Type 0} where
@@ -33,16 +32,11 @@ module _ {X : Type 0} where
   few_before xs p = omega (arith, few_present (take p xs), length-take p xs)
 
   -- the place of what stands there without the gaps
-  pub record Ranked (xs : List (Option X)) (q : ℕ) : Type 0 where
-    pub place : ℕ
-    pub taken : is_some (get_or xs place None) ≡ true
-    pub ranks : rank xs place ≡ q
-
-  pub ranked : (xs : List (Option X)) (q : ℕ) → is_some (get_or (closed xs) q None) ≡ true → Ranked xs q
+  pub ranked : (xs : List (Option X)) (q : ℕ) → is_some (get_or (closed xs) q None) ≡ true → (p : ℕ) × (is_some (get_or xs p None) ≡ true) × (rank xs p ≡ q)
   ranked [] q h = absurd cc
-  ranked (Some x ∷ xs) zero h = record { place = 0; taken = refl; ranks = refl }
-  ranked (Some x ∷ xs) (suc q) h = let r = ranked xs q h in record { place = suc r.place; taken = r.taken; ranks = ap suc r.ranks }
-  ranked (None ∷ xs) q h = let r = ranked xs q h in record { place = suc r.place; taken = r.taken; ranks = r.ranks }
+  ranked (Some x ∷ xs) zero h = (0, refl, refl)
+  ranked (Some x ∷ xs) (suc q) h = let r = ranked xs q h in (suc r.0, r.1, ap suc r.2)
+  ranked (None ∷ xs) q h = let r = ranked xs q h in (suc r.0, r.1, r.2)
 
 -- one place more
 rank_step : {X : Type 0} (o : Option X) (xs : List (Option X)) → length (present (xs ++ o ∷ [])) ≡ length (present xs) + cond (is_some o) 1 0
@@ -52,38 +46,13 @@ rank_step None xs = omega (arith, ap length (present_append xs (None ∷ [])), l
 pub rank_more : {X : Type 0} (xs : List (Option X)) (i : ℕ) → i < length xs → rank xs (i + 1) ≡ rank xs i + cond (is_some (get_or xs i None)) 1 0
 rank_more xs i l = ap (λ ys. length (present ys)) (take_more xs i None l) ∙ rank_step (get_or xs i None) (take i xs)
 
-pub placed_more : {X : Type 0} (xs : List (Option X)) (places : List ℕ) (at left : ℕ) → ((p : ℕ) → p < at → get_or places p 0 ≡ rank xs p) → left ≡ rank xs at → at < length places → (p : ℕ) → p < at + 1 → get_or (set places at left) p 0 ≡ rank xs p
-placed_more xs places at left so_far is room p l =
-    below_or_not p at (get_or (set places at left) p 0 ≡ rank xs p)
-    (λ less. get_or-set_other places at p left 0 (λ e. omega arith) ∙ so_far p less)
-    (λ more. let same : p ≡ at = omega arith in ap (λ (q : ℕ). get_or (set places at left) q 0) same ∙ get_or-set_same places at left 0 room ∙ is ∙ ap (rank xs) (sym same))
-
 pub rank_keys : (row : List (Option Entry)) (p : ℕ) → rank (keys_in row) p ≡ rank row p
-rank_keys row p = ap (λ (ks : List (Option RequestKey)). length (present ks)) (take-map (option_map key_of) p row) ∙ ap length (present_map key_of (take p row)) ∙ length-map (present (take p row)) key_of
+rank_keys row p = search (rules, take-map, present_map, length-map)
 
 -- ---- the order
 
--- the next number is as it was, where those before it were changed
-pub at_next : (f : ℕ → ℕ) (xs : List ℕ) (i d : ℕ) → i < length xs → get_or (map f (take i xs) ++ drop i xs) i d ≡ get_or xs i d
-at_next f xs i d l =
-    let front : length (map f (take i xs)) ≡ i = omega (arith, length-map (take i xs) f, length-take-le i xs (omega arith)) in
-    let e : i + (i - i) ≡ i = omega arith in
-    get_or-append_right (map f (take i xs)) (drop i xs) i i d front (omega arith) ∙ get_or-drop i xs (i - i) d ∙ ap (λ (n : ℕ). get_or xs n d) e
-
-contains_map : (f : ℕ → ℕ) (xs : List ℕ) (p q : ℕ) → f p ≡ q → Contains xs p → Contains (map f xs) q
-contains_map f xs p q e c = (c.0, omega (arith, length-map xs f, c.1), get_or-map f xs c.0 p q c.1 ∙ ap f c.2 ∙ e)
-
 sorted_closed : (keys : List (Option RequestKey)) (places : List ℕ) → IsSorted keys places → IsSorted (closed keys) (map (rank keys) places)
-sorted_closed keys places sorted =
-    let key : (p : ℕ) (d : RequestKey) → IsTaken keys p → key_in keys p d ≡ key_in (closed keys) (rank keys p) d = λ p d h. ap (λ (o : Option RequestKey). unwrap_or o d) (sym (rank_at keys p h)) in
-    record {
-      within = All-map (IsTaken (closed keys)) (rank keys) places (all_weaker_here (IsTaken keys) (λ p. IsTaken (closed keys) (rank keys p)) places (λ p h. ap is_some (rank_at keys p h) ∙ h) sorted.within);
-      whole = λ q h. let r = ranked keys q h in contains_map (rank keys) places r.place q r.ranks (sorted.whole r.place r.taken);
-      rises =
-          all_pairs_map (rank keys) (Before (closed keys)) places
-          (all_pairs_weaker (IsTaken keys) (Before keys) (λ p q. Before (closed keys) (rank keys p) (rank keys q)) places sorted.within
-          (λ p q hp hq before d. ap (λ (a : RequestKey). key_cmp a (key_in (closed keys) (rank keys q) d)) (sym (key p d hp)) ∙ ap (key_cmp (key_in keys p d)) (sym (key q d hq)) ∙ before d) sorted.rises);
-    }
+sorted_closed keys places sorted = sorted_moved keys (closed keys) places (rank keys) sorted (rank_at keys) (ranked keys)
 
 small_number : (n : ℕ) → n ≤ most_places → n ≡ number_at 0 n
 small_number n h = omega arith
@@ -100,10 +69,10 @@ order_closed keys first numbers places next o ranks is =
       numbered =
           is
           ∙ ap (map (λ n. get_or places (place_of first n) 0)) o.numbered
-          ∙ map_map (number_at first) (λ n. get_or places (place_of first n) 0) o.places
+          ∙ map-map (λ n. get_or places (place_of first n) 0) (number_at first) o.places
           ∙ map_agree (λ p. get_or places (place_of first (number_at first p)) 0) (λ p. number_at 0 (rank keys p)) o.places
-          (all_weaker_here (IsTaken keys) (λ p. get_or places (place_of first (number_at first p)) 0 ≡ number_at 0 (rank keys p)) o.places back o.sorted.within)
-          ∙ sym (map_map (rank keys) (number_at 0) o.places);
+          (All-weaker (IsTaken keys) (λ p. get_or places (place_of first (number_at first p)) 0 ≡ number_at 0 (rank keys p)) back o.places o.sorted.within)
+          ∙ sym (map-map (number_at 0) (rank keys) o.places);
       sorted = sorted_closed keys o.places o.sorted;
       around = omega arith;
       few = omega (arith, length-map (present keys) (λ k. Some k), few_present keys, o.few);
@@ -130,20 +99,11 @@ module _ {X : Type 0} where
   without_front xs i l = ap (λ (ys : List (Option X)). drop 1 (ys ++ closed (take i xs))) (drop_more xs i None l)
 
   pub turn_gap : (xs : List (Option X)) (i : ℕ) → i < length xs → None ≡ get_or xs i None → drop 1 (turned xs i) ≡ turned xs (i + 1)
-  turn_gap xs i l at =
-      without_front xs i l
-      ∙ ap (λ (ys : List (Option X)). drop (i + 1) xs ++ ys) (sym (closed_more xs i l ∙ ap (λ (o : Option X). closed (take i xs) ++ closed (o ∷ [])) (sym at) ∙ append-nil (closed (take i xs))))
+  turn_gap xs i l at = grind (arith, without_front, closed_more, append-nil)
 
   pub turn_pair : (xs : List (Option X)) (i : ℕ) (x : X) → i < length xs → Some x ≡ get_or xs i None → drop 1 (turned xs i) ++ Some x ∷ [] ≡ turned xs (i + 1)
-  turn_pair xs i x l at =
-      ap (λ (ys : List (Option X)). ys ++ Some x ∷ []) (without_front xs i l)
-      ∙ append_assoc (drop (i + 1) xs) (closed (take i xs)) (Some x ∷ [])
-      ∙ ap (λ (ys : List (Option X)). drop (i + 1) xs ++ ys) (sym (closed_more xs i l ∙ ap (λ (o : Option X). closed (take i xs) ++ closed (o ∷ [])) (sym at)))
+  turn_pair xs i x l at = grind (arith, without_front, append_assoc, closed_more)
 
   -- there is room for the one that went
   pub turned_short : (xs : List (Option X)) (i : ℕ) → i < length xs → length (drop 1 (turned xs i)) < length xs
-  turned_short xs i l =
-      omega (arith, ap length (without_front xs i l), length-append (drop (i + 1) xs) (closed (take i xs)), length-drop (i + 1) xs, length-map (present (take i xs)) (λ x. Some x), few_present (take i xs), length-take i xs)
-
-  pub turned_all : (xs : List (Option X)) (i : ℕ) → length xs ≤ i → turned xs i ≡ closed xs
-  turned_all xs i l = ap (λ (ys : List (Option X)). ys ++ closed (take i xs)) (drop_all i xs l) ∙ ap closed (take_all i xs l)
+  turned_short xs i l = grind (arith, without_front, length-append, length-drop, length-map, few_present, length-take)

@@ -1,5 +1,5 @@
 use Rattle.std.proofs.Common.{◌∙◌, sym}
-use Rattle.gw_draw.proofs.Places.{same_read}
+use Rattle.std.proofs.lemmas.List.{get_or_default}
 use Rattle.gw_draw.proofs.draw.carry.Goals as goal
 
 pub f-requires : goal.f-requires
@@ -9,6 +9,6 @@ pub returns : goal.returns
 returns g c = record {
   inside = c.requires.inside;
   seen = _;
-  shows = λ d. same_read c.args.jobs.now c.args.place d c.index-jobs-place.result c.requires.inside ∙ sym c.index-jobs-place.is;
+  shows = λ d. get_or_default c.args.jobs.now c.args.place d c.index-jobs-place.result c.requires.inside ∙ sym c.index-jobs-place.is;
   call = c.f.ensures;
 }

@@ -1,16 +1,10 @@
-use Rattle.std.proofs.Common.{rules, arith, ap, length}
-use Rattle.gw_draw.specs.declared.table.View.{View}
-use Rattle.gw_draw.specs.Draws.{top}
+use Rattle.std.proofs.Common.{rules, arith, length}
 use Rattle.gw_draw.specs.Answers.{view_of}
 use Rattle.gw_draw.proofs.Places.{top-snoc, each_more, view_more, alone_more}
 use Rattle.gw_draw.proofs.draw.draw_all.Goals as goal
 
 pub draw-smaller : goal.draw-smaller
-draw-smaller g c =
-    let d = ap (λ (v : View). top v.drawn) c.draw_one-number.ensures.drawn in
-    let t = top-snoc (view_of c.draw.seat).drawn c.draw_one-number.result in
-    let r = c.draw_one-number.ensures.rising in
-    omega arith
+draw-smaller g c = grind (arith, top-snoc)
 
 pub draw-preserved : goal.draw-preserved
 draw-preserved g c =

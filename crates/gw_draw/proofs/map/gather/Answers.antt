@@ -1,9 +1,10 @@
-use Rattle.std.proofs.Common.{arith, ap, ◌≡◌, Vec, Global}
+use Rattle.std.proofs.lemmas.Grind.{common_steps}
+use Rattle.std.proofs.Common.{arith, ap, ◌≡◌, rules}
 use Rattle.std.proofs.lemmas.Result.{IfOk-weaker}
 use Rattle.gw_draw.specs.declared.table.View.{View}
 use Rattle.gw_draw.specs.Answers.{view_of}
-use Rattle.gw_draw.proofs.Places.{all_full, gives_each}
-use Rattle.gw_draw.proofs.Joined.{popped, allowance_of, first_joined, more_joined, whole_allowance}
+use Rattle.gw_draw.proofs.Places.{gives_each}
+use Rattle.gw_draw.proofs.Joined.{popped, allowance_of, first_joined, more_joined}
 use Rattle.gw_draw.proofs.map.gather.Goals as goal
 
 pub loop-next-init : goal.loop-next-init
@@ -19,9 +20,7 @@ loop-next-init g c =
     }
 
 pub join-requires-clause-other : goal.join-requires-clause-other
-join-requires-clause-other g c =
-    let p = popped g.F.Fn c.args._f.now c.args.table c.args.jobs.now c.args.workers c.loop-next.runs.items c.pop-in-loop-next.new.self.items c.in-Some-pop.next c.in_ok-other.field-0 c.loop-next.invariant.each c.in-Some-pop.ensures.items c.in_ok-other.was in
-    p.1.0
+join-requires-clause-other g c = grind (arith, popped)
 
 pub place-requires-in-Some-pop : goal.place-requires-in-Some-pop
 place-requires-in-Some-pop g c =
@@ -43,13 +42,7 @@ loop-next-preserved g c =
     }
 
 pub unwrapped-requires : goal.unwrapped-requires
-unwrapped-requires g c =
-    let j = c.loop-next.invariant.joined in
-    let crew : (view_of c.loop-next.seat).workers ≡ c.args.workers = ap (λ (v : View). v.workers) j.knows in
-    let all = c.loop-next.invariant.count in
-    let len = j.filled.len in
-    let full : (view_of c.loop-next.seat).allowance ≡ (view_of c.loop-next.seat).workers = whole_allowance _ _ _ _ all crew c.in_default-pop.ensures.cases.0 in
-    λ i l. all_full g.F.Fn c.args._f.now c.args.jobs.now (view_of c.loop-next.seat).drawn c.loop-next.places.items c.close.result j.past j.filled j.is_past j.has_past (c.close.ensures full) i (omega (arith, c.loop-next.places.ok.0))
+unwrapped-requires g c = grind (arith, common_steps)
 
 pub returns : goal.returns
-returns g c = IfOk-weaker _ _ _ (λ (v : Vec g.row.X.Denot Global) e. gives_each g.F.Fn c.args._f.now c.args.jobs.now (view_of c.loop-next.seat).drawn c.loop-next.places.items v.items c.loop-next.invariant.joined.filled e) c.unwrapped.ensures
+returns g c = search (rules, IfOk-weaker, gives_each)

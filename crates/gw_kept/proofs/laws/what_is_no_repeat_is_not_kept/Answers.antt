@@ -1,4 +1,4 @@
-use Rattle.gw_kept.proofs.Repeats.{new_is_not_kept, over_is_not_kept, never_nothing}
+use Rattle.gw_kept.proofs.Repeats.{new_is_not_kept, over_is_not_kept}
 use Rattle.gw_kept.proofs.laws.what_is_no_repeat_is_not_kept.Goals as goal
 
 pub returns-clause-new : goal.returns-clause-new
@@ -6,6 +6,3 @@ returns-clause-new c = new_is_not_kept
 
 pub returns-clause-over : goal.returns-clause-over
 returns-clause-over c = over_is_not_kept
-
-pub returns-clause-nothing : goal.returns-clause-nothing
-returns-clause-nothing c = never_nothing

@@ -1,4 +1,4 @@
-use Rattle.std.proofs.Common.{◌≡◌, ◌∷◌, ◌+◌, length, sym, subst, ◌∙◌, arith}
+use Rattle.std.proofs.Common.{◌≡◌, ◌∷◌, ◌+◌, length, sym, subst, ◌∙◌, arith, rules}
 use Rattle.gw_kept.specs.declared.class.Class.TheVariants.{New}
 use Rattle.gw_kept.specs.declared.point.Point.{Point}
 use Rattle.gw_kept.specs.declared.point.Point.TheVariants as point
@@ -18,10 +18,4 @@ returns-in-New c =
     passes_new k s c.args.point.now key rest c.args.total c.saturating_add.result c.in-Request.is found more h
 
 pub returns-in_default-class_among : goal.returns-in_default-class_among
-returns-in_default-class_among c =
-    λ s rest h.
-    let k = c.args.self.now in
-    let key = c.in-Request.key in
-    let turn : IsTurn k s (point.Request key ∷ rest) c.args.total = subst (λ (x : Point). IsTurn k s (x ∷ rest) c.args.total) c.in-Request.is h in
-    let found : c.class_among.result ≡ class_of (length k.pairs) s.pairs (kept_place key s) = c.class_among.ensures s (now_apart k s key rest c.args.total turn) h.size in
-    passes_old k s c.args.point.now key rest c.args.total c.class_among.result c.in-Request.is c.in_default-class_among.not-New found h
+returns-in_default-class_among c = search (rules, now_apart, passes_old)

@@ -1,4 +1,4 @@
-use Rattle.std.proofs.Common.{◌≡◌, Result, Ok, Err, IfOk, ap, ◌∙◌}
+use Rattle.std.proofs.Common.{◌≡◌, Result, Ok, Err, IfOk, ap, ◌∙◌, arith}
 use Rattle.gw_kept.specs.Pairs.{KeptList}
 use Rattle.gw_kept.specs.Classes.{keys_of}
 use Rattle.gw_kept.specs.Rows.{Gapped, kept_in, keys_in}
@@ -10,4 +10,4 @@ with_keys (Ok row) g k is same = same_keys row.row g.row same ∙ ap keys_of is
 with_keys (Err e) g k is same = tt
 
 pub returns-clause-keys : goal.returns-clause-keys
-returns-clause-keys c = with_keys c.keys.result c.self.inside.row c.args.self.now c.self.view_is c.keys.ensures.keys
+returns-clause-keys c = grind (arith, same_keys)

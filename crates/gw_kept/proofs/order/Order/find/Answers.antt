@@ -1,16 +1,9 @@
-use Rattle.std.proofs.Common.{◌≡◌, Some, None, ap, subst, ◌∙◌}
+use Rattle.std.proofs.Common.{◌≡◌, None, subst}
 use Rattle.gw_kept.specs.declared.entry.RequestKey.{RequestKey}
 use Rattle.gw_kept.specs.Pairs.{key_by}
 use Rattle.gw_kept.specs.Rows.{keys_in, IsFound}
-use Rattle.gw_kept.proofs.Orders.{found, not_found}
+use Rattle.gw_kept.proofs.Orders.{not_found}
 use Rattle.gw_kept.proofs.order.Order.find.Goals as goal
-
-pub returns-in-Ok : goal.returns-in-Ok
-returns-in-Ok c =
-    let self = c.args.self.now in
-    let same : key_by c.mid.result.now c.id.result ≡ c.args.key.now = λ i. record { mid = c.mid.ensures i; id = c.id.ensures i } in
-    found (keys_in c.args.ring.now.items) self.first self.numbers.items (key_by c.mid.result.now c.id.result) c.in-Ok.at c.index.result.now c.place.result c.requires (c.in-Ok.ensures.stand c.requires) c.index.ensures c.place.ensures
-    ∙ ap (λ (k : RequestKey). Some k) same
 
 pub returns-in-Err : goal.returns-in-Err
 returns-in-Err c =

@@ -1,4 +1,4 @@
-use Rattle.std.proofs.Common.{◌≡◌, ◌∷◌, ◌<◌, [], ℕ, List, length, map, get_or, refl, ap, sym, subst, ◌∙◌, arith}
+use Rattle.std.proofs.Common.{◌≡◌, ◌∷◌, ◌<◌, [], ℕ, List, length, map, get_or, ap, sym, subst, ◌∙◌, arith}
 use Rattle.std.proofs.lemmas.List.{get_or_default}
 use Rattle.circular_buffer.specs.Buffer.{buffer}
 use Rattle.gw_kept.specs.Order.{place_of, IsOrder}
@@ -7,12 +7,6 @@ use Rattle.gw_kept.proofs.Freed.{IsFreed, freed_none, freed_next, freed_left, fr
 use Rattle.gw_kept.proofs.Orders.{numbers_are}
 use Rattle.gw_kept.proofs.Rows.{keys_count}
 use Rattle.gw_kept.proofs.order.Order.forget.Goals as goal
-
-pub loop-at-init : goal.loop-at-init
-loop-at-init c = record {
-  freed = λ o. (freed_none c.args.ring.now.items o.places c.span-start.result.0 c.span-start.result.0 (omega arith), refl);
-  capacity = refl;
-}
 
 pub loop-at-preserved : goal.loop-at-preserved
 loop-at-preserved c =

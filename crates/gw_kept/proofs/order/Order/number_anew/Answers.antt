@@ -1,3 +1,4 @@
+use Rattle.std.proofs.lemmas.Grind.{common_steps}
 use Rattle.std.proofs.Common.{◌≡◌, ◌<◌, ◌≤◌, ◌++◌, ℕ, length, set, get_or, map, take, sym, ap, ◌∙◌, arith}
 use Rattle.std.proofs.lemmas.List.{append-nil, length-map, take_all, drop_all}
 use Rattle.std.proofs.lemmas.List.Edits.{map_over_more}
@@ -6,21 +7,11 @@ use Rattle.gw_kept.specs.Pairs.{key_of}
 use Rattle.gw_kept.specs.Rows.{keys_in}
 use Rattle.gw_kept.specs.Order.{place_of}
 use Rattle.gw_kept.proofs.Orders.{place_below}
-use Rattle.gw_kept.proofs.Settled.{at_next, rank_keys, order_closed}
+use Rattle.gw_kept.proofs.Settled.{rank_keys, order_closed}
 use Rattle.gw_kept.proofs.order.Order.number_anew.Goals as goal
 
 pub bounds-places-place : goal.bounds-places-place
-bounds-places-place c =
-    let keys = keys_in c.args.ring.now.items in
-    let old = c.args.self.now in
-    let inv = c.loop-at.invariant in
-    let at = c.loop-at.at in
-    let x = c.index.result.now in
-    let f : ℕ → ℕ = λ n. get_or c.places_left-places.result (place_of old.first n) 0 in
-    let l : at < length old.numbers.items = omega (arith, old.numbers.ok.0, c.len-at-end.ensures, c.loop-at-test.true) in
-    let read : x ≡ get_or old.numbers.items at x = c.index.ensures ∙ ap (λ ns. get_or ns at x) inv.numbers ∙ at_next f old.numbers.items at x l in
-    let is : c.place-place.result ≡ place_of old.first (get_or old.numbers.items at x) = c.place-place.ensures ∙ ap (λ (n : ℕ). place_of n x) inv.first ∙ ap (place_of old.first) read in
-    omega (arith, is, place_below keys old.first old.numbers.items at x c.requires l, c.requires.few)
+bounds-places-place c = grind (arith, common_steps, place_below)
 
 pub loop-at-preserved : goal.loop-at-preserved
 loop-at-preserved c =

@@ -1,9 +1,9 @@
 use Rattle.std.proofs.Common.{◌∷◌, [], length, map, take, get_or, sym, ap, subst, ◌∙◌, arith}
-use Rattle.std.proofs.lemmas.List.{get_or_default}
+use Rattle.std.proofs.lemmas.List.{get_or_default, take_all}
 use Rattle.gw_msg.specs.declared.message.AckRange.{AckRange}
 use Rattle.gw_kept.specs.Pairs.{IsBounded}
-use Rattle.gw_kept.specs.Rows.{Gapped, gapped, present, kept_in, left_of}
-use Rattle.gw_kept.proofs.Forgetting.{left_by_none, left_more, few_left_of, all_forgotten}
+use Rattle.gw_kept.specs.Rows.{Gapped, present, kept_in, left_of}
+use Rattle.gw_kept.proofs.Forgetting.{left_by_none, left_more, few_left_of, present_left}
 use Rattle.gw_kept.proofs.Rows.{bounded_few}
 use Rattle.gw_kept.proofs.row.Row.forget.Goals as goal
 
@@ -50,7 +50,4 @@ invariant_of-self c =
     )
 
 pub returns : goal.returns
-returns c =
-    let si = c.loop-range.self-inside in
-    let inv = c.loop-range.invariant in
-    all_forgotten c.args.self.now (gapped si.ring.items si.most) c.args.mid.now c.args.ranges.now c.loop-range.range-index inv.left inv.most c.loop-range-test.false
+returns c = grind (arith, take_all, present_left)
