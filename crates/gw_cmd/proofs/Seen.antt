@@ -1,6 +1,6 @@
 -- The errors among replies.
-use Rattle.std.proofs.Common.{◌≡◌, Bool, true, false, List, [], ◌∷◌, ◌++◌, Option, None, Some, is_some, is_none, Result, Ok, Err, refl}
-use Rattle.std.specs.Prelude.{◌||◌, not, is_err, if◌then◌else◌}
+use Rattle.std.proofs.Common.{◌≡◌, Bool, true, false, List, [], ◌∷◌, ◌++◌, Option, None, Some, is_some, Result, Ok, Err, refl}
+use Rattle.std.specs.Prelude.{◌||◌, is_err, if◌then◌else◌}
 use Rattle.std.specs.List.{list_any, find}
 use Rattle.std.specs.Option.{option_or}
 use Rattle.gw_base.specs.declared.code.Code.{Code}
@@ -20,10 +20,6 @@ same_code (Err code) = refl
 a_code : (x : Result (List ReplyPart) Code) → is_err x ≡ true → is_some (code_of (error_of x)) ≡ true
 a_code (Ok parts) e = absurd cc
 a_code (Err code) e = refl
-
-pub done_code : (x : Result (List ReplyPart) Code) → is_none (code_of x) ≡ not (is_err x)
-done_code (Ok parts) = refl
-done_code (Err code) = refl
 
 alone_by : (r : CommandReply) (b : Bool) → has_error r ≡ b → code_of (error_in (if b then Some r else None)) ≡ code_of r.result
 alone_by r true e = same_code r.result

@@ -31,11 +31,11 @@ use Rattle.gw_cmd.specs.declared.task.Act.TheVariants.{Add, Move, Modify, Subtra
 use Rattle.gw_cmd.specs.declared.task.Task.{Task}
 use Rattle.gw_cmd.specs.declared.task.Task.TheVariants as task
 use Rattle.gw_cmd.specs.Changes.{changed}
-use Rattle.gw_cmd.specs.Commands.{reply, new_reply, serviced_if, root_maps}
+use Rattle.gw_cmd.specs.Commands.{reply, new_reply}
 use Rattle.gw_cmd.specs.Effects.{refusal_elsewhere, after_service, is_full, decided_in, decided_in_null, decided, done, on_record, on_found, on_name}
 use Rattle.gw_cmd.specs.Plans.{parts_if, decided_if, answer_if, answered}
 use Rattle.gw_cmd.specs.Refused.{Answers, Gives}
-use Rattle.gw_cmd.specs.Tasks.{act_place, act_verb, task_place, task_verb, task_service, task_of, decided_by, IsServedBy, Does, IsAllowed}
+use Rattle.gw_cmd.specs.Tasks.{act_place, act_verb, task_place, task_verb, task_of, decided_by, IsServedBy, Does, IsAllowed}
 use Rattle.gw_cmd.specs.Written.{new_term, seen}
 use Rattle.gw_cmd.proofs.AsItIs.{service_done}
 use Rattle.gw_cmd.proofs.Lawful.{Lawful, decided_lawful}
@@ -97,18 +97,6 @@ module _ (rules own : Rules) (ds : List Descriptor) (a : Act) (c : Command) (t :
       let law : Lawful rules c.verb (act_place a) r w.0.change m = decided_lawful rules (act_place a) c m r w.0 (decided_so ∙ w.1) in
       subst (λ (v : Verb). Lawful rules v (act_place a) r d.change m) does.verb
       (subst (λ (x : Change). Lawful rules c.verb (act_place a) r x m) (sym (ap (λ (y : Decided). y.change) w.2)) law)
-
--- what it does to the gateway itself
-pub root_served : (t : Task) (c : Command) (m : Maps) → Does t c → root_maps c.verb c.descriptors m ≡ serviced_if (task_service t) m
-root_served t c m d = ap (λ (v : Verb). root_maps v c.descriptors m) d.verb ∙ by t d.served
-  where
-    by : (t : Task) → IsServedBy c.descriptors t → root_maps (task_verb t) c.descriptors m ≡ serviced_if (task_service t) m
-    by (task.Act (Add n)) h = refl
-    by (task.Act (Move n)) h = refl
-    by (task.Act (Modify p)) h = refl
-    by (task.Act (Subtract n)) h = refl
-    by (task.Act (Audit p)) h = refl
-    by (task.Serve p s) h = ap (λ (o : Option Service). serviced_if o m) (sym h)
 
 -- ---- what is decided, without what its reply has
 

@@ -15,9 +15,6 @@ not_le a b h = refuted (nat_le a b) (λ e. let le = leb-true a b e in omega (ari
 later-append : {T : Type 0} (text : T → List ℕ) (xs ys : List T) → later text (xs ++ ys) ≡ later text xs ++ later text ys
 later-append text xs ys = flat_map-append (λ x. comma ∷ text x) xs ys
 
-pub length-later : {T : Type 0} (text : T → List ℕ) (xs ys : List T) → length (later text (xs ++ ys)) ≡ length (later text xs) + length (later text ys)
-length-later text xs ys = ap (λ (l : List ℕ). length l) (later-append text xs ys) ∙ length-append (later text xs) (later text ys)
-
 -- whether there is room decides what is written
 pub if_room : {T : Type 0} (front more : List ℕ) (room : ℕ) → length more ≤ room → written_within {T = T} front more room ≡ Within (front ++ more) (room - length more)
 if_room {T} front more room h =
@@ -65,7 +62,3 @@ written_more text (Within front room) xs ys =
     within_more text front (later text xs) ys room (nat_le (length (later text xs)) room) refl
     ∙ ap (λ (l : List ℕ). written_within front l room) (sym (later-append text xs ys))
 written_more text TooLong xs ys = refl
-
--- what there is no room for is too long
-pub not_within : {T : Type 0} (text : T → List ℕ) (front : List ℕ) (more : List T) (room : ℕ) → room < length (later text more) → written_behind text (Within front room) more ≡ TooLong
-not_within text front more room h = if_none front (later text more) room h

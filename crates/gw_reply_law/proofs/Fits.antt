@@ -1,6 +1,5 @@
 -- Stretches of a group: texts that may stand in one, put one behind the other.
-use Rattle.std.proofs.Common.{◌≡◌, ℕ, suc, ◌-◌, ◌≤◌, ◌<◌, Bool, true, false, List, [], ◌∷◌, ◌++◌, length, get_or, refl, ap, sym, ◌∙◌, subst, append_assoc, append-nil, arith}
-use Rattle.std.specs.List.{join_with_byte}
+use Rattle.std.proofs.Common.{◌≡◌, ℕ, ◌-◌, ◌≤◌, ◌<◌, Bool, true, false, List, [], ◌∷◌, ◌++◌, refl, ap, sym, ◌∙◌, subst, append_assoc, append-nil, arith}
 use Rattle.gw_text.specs.Lexical.{left_brace, right_brace, comma}
 use Rattle.gw_text.specs.Forms.{IsWord}
 use Rattle.gw_text.specs.Quoted.{IsQuoted}
@@ -126,10 +125,6 @@ as_runs {levels} {a} {b} {u} {v} {x} f = record { behind = b; ends = v; fits = f
 pub then_runs : {levels : ℕ} {a b : Before} {u v : Bool} {x y : List ℕ} → Fits levels a u x b v → Runs levels b v y → Runs levels a u (x ++ y)
 then_runs f g = record { behind = g.behind; ends = g.ends; fits = then f g.fits }
 
--- what ends anyhow, and what may stand anywhere
-pub runs_then : {levels : ℕ} {a c : Before} {u w : Bool} {x y : List ℕ} → Runs levels a u x → ((b : Before) (v : Bool) → Fits levels b v y c w) → Fits levels a u (x ++ y) c w
-runs_then f g = then f.fits (g f.behind f.ends)
-
 pub runs_then_runs : {levels : ℕ} {a : Before} {u : Bool} {x y : List ℕ} → Runs levels a u x → ((b : Before) (v : Bool) → Runs levels b v y) → Runs levels a u (x ++ y)
 runs_then_runs f g = let h = g f.behind f.ends in record { behind = h.behind; ends = h.ends; fits = then f.fits h.fits }
 
@@ -192,11 +187,3 @@ fits_comma levels b v = fits_mark levels b v comma refl
 -- a word and a mark behind it, as in `Context=`
 pub fits_key : (levels : ℕ) (b : Before) (w : List ℕ) (m : ℕ) → IsWord w → is_mark m ≡ true → Fits levels b false (w ++ m ∷ []) (after_mark m) false
 fits_key levels b w m h k = then (fits_word levels b w h) (fits_mark levels (after_word b w) true m k)
-
--- texts with a comma between each two, where each may stand behind a comma
-pub runs_joined : (levels : ℕ) (texts : List (List ℕ)) → ((i : ℕ) → i < length texts → Runs levels Other false (get_or texts i [])) → Runs levels Other false (join_with_byte comma texts)
-runs_joined levels [] h = as_runs (fits_nothing levels Other false)
-runs_joined levels (x ∷ []) h = h 0 (omega arith)
-runs_joined levels (x ∷ (y ∷ ys)) h =
-    runs_then_runs (h 0 (omega arith))
-    (λ b v. then_runs (fits_comma levels b v) (runs_joined levels (y ∷ ys) (λ i lt. h (suc i) (omega arith))))

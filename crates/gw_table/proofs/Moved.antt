@@ -15,7 +15,7 @@ use Rattle.gw_table.specs.declared.place.Place.TheVariants.{Out}
 use Rattle.gw_table.specs.Cells.{or_empty, cell_from, with_cell}
 use Rattle.gw_table.specs.Maps.{term, ctx, no_maps}
 use Rattle.gw_table.specs.Parts.{restricted, cut, overlaid}
-use Rattle.gw_table.specs.Stored.{Stored, visible, has_left, maps_of, is_ready, is_out, names_entry, with_out, AreMoved, AreReady, AreIn, AreOut, AreAsReady, AreAsOut, NoneIsOut, WentOut, CameBack, nothing_stored}
+use Rattle.gw_table.specs.Stored.{Stored, visible, has_left, maps_of, is_ready, names_entry, with_out, AreMoved, AreReady, AreIn, AreAsReady, NoneIsOut, WentOut, CameBack, nothing_stored}
 use Rattle.gw_table.proofs.Lookups.{same_maps}
 use Rattle.gw_table.proofs.PartLookups.{term-restricted, ctx-restricted, term-cut, ctx-cut, term-overlaid, ctx-overlaid}
 use Rattle.gw_table.proofs.Places.{term-maps_of, ctx-maps_of, got_term, got_ctx, maps_of_nothing, nothing_out}
@@ -177,41 +177,7 @@ module _ (keys : List Key) (from left full : Stored) (m : AreMoved keys from not
   pub none_out : AreIn keys from → NoneIsOut full
   none_out h k = came_back keys from nothing_stored left full m h k ∙ ap (λ x. x && not (has keys k)) (nothing_out k)
 
--- a list in which no key stands twice says which were not out before
-pub back_in : (keys : List Key) (a b : Stored) → AreIn keys a → CameBack keys a b → AreAsOut a b
-back_in keys a b h c k = c k ∙ at (is_out a k) (has keys k) (h k)
-  where
-    at : (x y : Bool) → (y ≡ true → x ≡ false) → (x && not y) ≡ x
-    at true true f = sym (f refl)
-    at true false f = refl
-    at false true f = refl
-    at false false f = refl
-
--- keys that are out are prepared
-pub out_ready : (s : Stored) (k : Key) → names_entry k ≡ true → is_out s k ≡ true → is_ready s k ≡ true
-out_ready s (Term t) n h = at (finite.get s.terms t) h
-  where
-    at : {A : Type 0} (o : Option (Place A)) → has_left o ≡ true → is_some o ≡ true
-    at None h = cc
-    at (Some p) h = refl
-out_ready s (Ctx n) e h = at (finite.get s.contexts n.0) h
-  where
-    at : {A : Type 0} (o : Option (Place A)) → has_left o ≡ true → is_some o ≡ true
-    at None h = cc
-    at (Some p) h = refl
-out_ready s Whole n h = refl
-
 -- ---- out and back
-
--- keys that went out are out
-pub taken_out : (keys : List Key) (a b : Stored) → WentOut keys a b → AreOut keys b
-taken_out keys a b w k h n = w k ∙ at (is_out a k) (has keys k) (names_entry k) h n
-  where
-    at : (x y z : Bool) → y ≡ true → z ≡ true → (x || (y && z)) ≡ true
-    at true y z h n = refl
-    at false true true h n = refl
-    at false true false h n = n
-    at false false z h n = absurd cc
 
 -- and where nothing else was out, nothing is when they came back
 pub all_back : (keys : List Key) (a b c : Stored) → NoneIsOut a → WentOut keys a b → CameBack keys b c → NoneIsOut c

@@ -25,9 +25,9 @@ use Rattle.gw_table.specs.declared.place.Place.{Place}
 use Rattle.gw_table.specs.declared.place.Place.TheVariants.{Empty, Here, Out}
 use Rattle.gw_table.specs.Cells.{cell_from, with_cell, IsFound}
 use Rattle.gw_table.specs.KeyLists.{key_cmp, IsInOrder}
-use Rattle.gw_table.specs.Stored.{Stored, visible, if_visible, has_left, maps_of, is_ready, put_term_place, put_ctx_place, with_out, AreMoved, ArePrepared, AreAsOut, NoneIsOut, AreSwept, KeepReady, AreReady, NoOtherReady}
+use Rattle.gw_table.specs.Stored.{Stored, visible, if_visible, has_left, maps_of, is_ready, put_term_place, put_ctx_place, with_out, AreMoved, ArePrepared, AreAsOut, NoneIsOut, AreSwept, AreReady, NoOtherReady}
 use Rattle.gw_table.proofs.KeyOrder.{key_test, same_key_is}
-use Rattle.gw_table.proofs.Moved.{has-pushed, moved_more, ready_left}
+use Rattle.gw_table.proofs.Moved.{moved_more, ready_left}
 use Rattle.gw_table.proofs.Places.{term-maps_of, ctx-maps_of, shown_alike, got_term, got_ctx}
 
 -- ---- places are made
@@ -36,19 +36,9 @@ or_nothing : (b : Bool) → b ≡ (b || false)
 or_nothing true = refl
 or_nothing false = refl
 
-pub prepared_none : (a : Stored) → ArePrepared [] a a
-prepared_none a = record { maps = refl; out = λ k. refl; ready = λ k. or_nothing (is_ready a k) }
-
 regroup : (a b c : Bool) → ((a || b) || c) ≡ (a || (b || c))
 regroup true b c = refl
 regroup false b c = refl
-
-pub prepared_more : (keys : List Key) (k : Key) (a b c : Stored) → ArePrepared keys a b → ArePrepared (k ∷ []) b c → ArePrepared (keys ++ k ∷ []) a c
-prepared_more keys k a b c p q = record {
-  maps = q.maps ∙ p.maps;
-  out = λ x. q.out x ∙ p.out x;
-  ready = λ x. q.ready x ∙ ap (λ y. y || (same_key x k || false)) (p.ready x) ∙ ap (λ y. (is_ready a x || has keys x) || y) (sym (or_nothing (same_key x k))) ∙ regroup (is_ready a x) (has keys x) (same_key x k) ∙ ap (λ y. is_ready a x || y) (sym (has-pushed keys k x));
-}
 
 -- a key that was prepared
 there_already : {K A : Type 0} (f : K → Option A) (b : Bool) (q t : K) → (b ≡ true → q ≡ t) → is_some (f t) ≡ true → is_some (f q) ≡ (is_some (f q) || (b || false))
@@ -128,12 +118,6 @@ ctx_made s n none = record {
     ready Whole = refl
 
 -- ---- what follows of the keys so far, and of all
-
-pub are_ready : (keys : List Key) (a b : Stored) → ArePrepared keys a b → AreReady keys b
-are_ready keys a b p k h = p.ready k ∙ or_right (is_ready a k) (has keys k) h
-
-pub keep_ready : (keys : List Key) (a b : Stored) → ArePrepared keys a b → KeepReady a b
-keep_ready keys a b p k h = p.ready k ∙ or_left (is_ready a k) (has keys k) h
 
 any_front : (x : Key) (keys : List Key) (i : ℕ) → has keys x ≡ false → has (take i keys) x ≡ false
 any_front x keys zero h = refl

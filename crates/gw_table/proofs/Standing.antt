@@ -1,11 +1,8 @@
 -- Marks of entries, kept through each change of a place.
-use Rattle.std.proofs.Common.{◌≡◌, ℕ, ◌<◌, Bool, true, false, cond, List, Option, None, Some, is_some, bytes_eq, nat_eq, eq-eqb, eqb-true, refl, sym, ap, subst, ◌∙◌}
-use Rattle.std.specs.Cmp.{nat_cmp_total}
-use Rattle.std.specs.Cmp.Lexicographic.{nat_list_cmp_total}
+use Rattle.std.proofs.Common.{◌≡◌, ℕ, ◌<◌, Bool, true, false, cond, List, Option, Some, is_some, bytes_eq, nat_eq, eq-eqb, eqb-true, refl, sym, ap, subst, ◌∙◌}
 use Rattle.std.specs.FinMap as finite
-use Rattle.std.specs.FinMap.{get-remove}
 use Rattle.gw_base.specs.declared.ids.CtxNum.{CtxNum}
-use Rattle.gw_base.proofs.NameTests.{name_test, number_test, same_name, name_itself}
+use Rattle.gw_base.proofs.NameTests.{same_name, name_itself}
 use Rattle.gw_ctx.specs.Contexts.{ContextRecord}
 use Rattle.gw_bits.specs.BitSets.{has_bit, IsBlank}
 use Rattle.gw_term.specs.declared.record.Termination.{Termination}
@@ -13,9 +10,9 @@ use Rattle.gw_table.specs.declared.place.Place.{Place}
 use Rattle.gw_table.specs.Maps.{Maps, term, ctx, number, put_term, put_ctx}
 use Rattle.gw_table.specs.Marking.{AreSet, IsNumberSet, IsSlotSet}
 use Rattle.gw_table.specs.Reserved.{slot_name}
-use Rattle.gw_table.specs.Stored.{Stored, visible, maps_of, put_term_place, put_ctx_place, drop_term_place, drop_ctx_place}
-use Rattle.gw_table.proofs.Lookups.{term-put_term, ctx-put_term, term-put_ctx, ctx-put_ctx, same_maps}
-use Rattle.gw_table.proofs.Places.{term-maps_of, ctx-maps_of, maps-put_term_place, maps-put_ctx_place}
+use Rattle.gw_table.specs.Stored.{Stored, visible, maps_of, put_term_place, put_ctx_place}
+use Rattle.gw_table.proofs.Lookups.{term-put_term, ctx-put_term, term-put_ctx, ctx-put_ctx}
+use Rattle.gw_table.proofs.Places.{maps-put_term_place, maps-put_ctx_place}
 
 -- nothing is marked
 pub none_marked : (numbers slots : List ℕ) (m : Maps) → IsBlank numbers → IsBlank slots → AreSet numbers slots m
@@ -65,26 +62,6 @@ in_use-put_still numbers slots m t o still in_use = record {
     either s false e h = h
 
 -- ---- one place
-
-pub maps-drop_term_place : (s : Stored) (t : List ℕ) → maps_of (drop_term_place s t) ≡ put_term (maps_of s) t None
-maps-drop_term_place s t = same_maps (maps_of (drop_term_place s t)) (put_term (maps_of s) t None)
-    (λ q. term-maps_of (drop_term_place s t) q ∙ ap (λ o. visible o) (get-remove nat_list_cmp_total s.terms t q ∙ ap (λ b. cond b None (finite.get s.terms q)) (name_test q t)) ∙ shown_none (bytes_eq q t) (finite.get s.terms q)
-    ∙ ap (cond (bytes_eq q t) None) (sym (term-maps_of s q)) ∙ sym (term-put_term (maps_of s) t None q))
-    (λ q. ctx-maps_of (drop_term_place s t) q ∙ sym (ctx-maps_of s q) ∙ sym (ctx-put_term (maps_of s) t None q))
-  where
-    shown_none : {A : Type 0} (b : Bool) (o : Option (Place A)) → visible (cond b None o) ≡ cond b None (visible o)
-    shown_none true o = refl
-    shown_none false o = refl
-
-pub maps-drop_ctx_place : (s : Stored) (n : CtxNum) → maps_of (drop_ctx_place s n) ≡ put_ctx (maps_of s) n None
-maps-drop_ctx_place s n = same_maps (maps_of (drop_ctx_place s n)) (put_ctx (maps_of s) n None)
-    (λ q. term-maps_of (drop_ctx_place s n) q ∙ sym (term-maps_of s q) ∙ sym (term-put_ctx (maps_of s) n None q))
-    (λ q. ctx-maps_of (drop_ctx_place s n) q ∙ ap (λ o. visible o) (get-remove nat_cmp_total s.contexts n.0 q.0 ∙ ap (λ b. cond b None (finite.get s.contexts q.0)) (number_test q.0 n.0)) ∙ shown_none (nat_eq q.0 n.0) (finite.get s.contexts q.0)
-    ∙ ap (cond (nat_eq q.0 n.0) None) (sym (ctx-maps_of s q)) ∙ sym (ctx-put_ctx (maps_of s) n None q))
-  where
-    shown_none : {A : Type 0} (b : Bool) (o : Option (Place A)) → visible (cond b None o) ≡ cond b None (visible o)
-    shown_none true o = refl
-    shown_none false o = refl
 
 module _ (numbers slots new : List ℕ) (s after : Stored) (in_use : AreSet numbers slots (maps_of s)) where
   pub in_use-put_ctx_place : (n : CtxNum) (p : Place ContextRecord) (b : Bool) → IsNumberSet n.0 b numbers new → b ≡ is_some (visible (Some p)) → after ≡ put_ctx_place s n p → AreSet new slots (maps_of after)

@@ -16,9 +16,6 @@ use Rattle.gw_table.specs.Stored.{Stored, visible, has_left, is_vacant, maps_of,
 use Rattle.gw_table.proofs.Moved.{has-pushed}
 use Rattle.gw_table.proofs.Places.{term-maps_of, ctx-maps_of, shown_alike}
 
-pub swept_none : (a : Stored) → WereSwept [] a a
-swept_none a = record { maps = refl; out = λ k. refl; ready = λ k. refl }
-
 one_of_both : (h s e r : Bool) → cond (s || false) e (cond h e r) ≡ cond (h || s) e r
 one_of_both true true e r = refl
 one_of_both true false e r = refl
@@ -62,14 +59,6 @@ ctx_kept s n out full = record { maps = refl; out = λ k. refl; ready = at }
     at : (k : Key) → is_ready s k ≡ cond (has (Ctx n ∷ []) k) (has_entry (maps_of s) k) (is_ready s k)
     at (Term q) = refl
     at (Ctx q) = still_ready (λ (y : CtxNum). finite.get s.contexts y.0) (nat_eq q.0 n.0) q n (has_entry (maps_of s) (Ctx q)) (same_number q n) out full (ap (λ o. is_some o) (ctx-maps_of s q))
-    at Whole = refl
-
-pub whole_kept : (s : Stored) → WereSwept (Whole ∷ []) s s
-whole_kept s = record { maps = refl; out = λ k. refl; ready = at }
-  where
-    at : (k : Key) → is_ready s k ≡ cond (has (Whole ∷ []) k) (has_entry (maps_of s) k) (is_ready s k)
-    at (Term q) = refl
-    at (Ctx n) = refl
     at Whole = refl
 
 -- ---- a place in which nothing stands
