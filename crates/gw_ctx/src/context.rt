@@ -135,14 +135,6 @@ impl Context {
         self.emergency = true;
     }
 
-    /// Sets both properties: the priority, and whether the context is an emergency.
-    pub fn set_properties(&mut self, priority: u8, emergency: bool)
-        ensures { self.new ≡ prioritized priority (with_emergency emergency self.old) }
-    {
-        self.set_priority(priority);
-        self.emergency = emergency;
-    }
-
     /// How media flow between two names from now on: the link of the pair, in either order, goes, and this one goes
     /// last, unless it is both ways. The work is one pass of the names that were linked, and one of the links.
     ///

@@ -16,7 +16,7 @@ use Rattle.gw_base.specs.declared.key.Key.TheVariants.{Term, Ctx, Whole}
 use Rattle.gw_base.specs.Keys.{same_key, has}
 use Rattle.gw_base.specs.NameLists.{name_cmp}
 use Rattle.gw_base.proofs.KeyTests.{same-itself}
-use Rattle.gw_base.proofs.NameTests.{name_test, number_test}
+use Rattle.gw_base.proofs.NameTests.{name_test}
 use Rattle.gw_base.proofs.Views.{seen}
 use Rattle.gw_term.specs.declared.record.Termination.{Termination}
 use Rattle.gw_ctx.specs.Contexts.{ContextRecord}
@@ -34,46 +34,35 @@ use Rattle.gw_table.proofs.Prepared.{first}
 -- ---- one more key
 
 one_term : (t : List ℕ) (k : Key) (c : Cell) (es : List (List ℕ × Place Termination)) → lookup (is_at (name_cmp t)) (with_term k c es) ≡ cond (same_key (Term t) k) (Some (cell_term c)) (lookup (is_at (name_cmp t)) es)
-one_term t (Term q) c es = ap (λ b. cond b (Some (cell_term c)) (lookup (is_at (name_cmp t)) es)) (name_test t q)
-one_term t (Ctx n) c es = refl
-one_term t Whole c es = refl
+one_term t k c es = grind (arith, name_test)
 
 -- the key of a context's number
 abbrev of_number : ℕ → Key
 of_number n = Ctx (record { 0 = n })
 
 one_ctx : (n : ℕ) (k : Key) (c : Cell) (es : List (ℕ × Place ContextRecord)) → lookup (is_at (nat_cmp n)) (with_ctx k c es) ≡ cond (same_key (of_number n) k) (Some (cell_ctx c)) (lookup (is_at (nat_cmp n)) es)
-one_ctx n (Term q) c es = refl
-one_ctx n (Ctx q) c es = ap (λ b. cond b (Some (cell_ctx c)) (lookup (is_at (nat_cmp n)) es)) (number_test n q.0)
-one_ctx n Whole c es = refl
+one_ctx n k c es = grind arith
 
 -- ---- tests
 
 off_first : (a b : Bool) → (a || b) ≡ false → a ≡ false
-off_first true b h = h
-off_first false b h = refl
+off_first a b h = grind arith
 
 off_rest : (a b : Bool) → (a || b) ≡ false → b ≡ false
-off_rest true b h = absurd cc
-off_rest false b h = h
+off_rest a b h = grind arith
 
 there : {A : Type 0} (b h : Bool) (p : A) (o : Option A) → is_some o ≡ h → is_some (cond b (Some p) o) ≡ (b || h)
-there true h p o e = refl
-there false h p o e = e
+there b h p o e = grind arith
 
 hit : {A : Type 0} (b : Bool) (x y : A) → b ≡ true → cond b x y ≡ x
-hit true x y h = refl
-hit false x y h = absurd cc
+hit b x y h = grind arith
 
 over : {A : Type 0} (b : Bool) (x y z : A) → cond b x z ≡ cond b x (cond b y z)
-over true x y z = refl
-over false x y z = refl
+over b x y z = grind arith
 
 -- only one of two tests holds
 apart : {A : Type 0} (a b : Bool) (x y z : A) → (a ≡ true → b ≡ true → ⊥) → cond a x (cond b y z) ≡ cond b y (cond a x z)
-apart true true x y z h = absurd (h refl refl)
-apart true false x y z h = refl
-apart false b x y z h = refl
+apart a b x y z h = grind arith
 
 -- ---- a cell is set, or put behind the last one
 
@@ -138,9 +127,7 @@ pub no_ctx : (keys : List Key) (cells : List Cell) → length cells ≡ length k
 no_ctx keys cells h n off = nothing_found (finite.get (celled keys cells).contexts n.0) (found_ctx keys cells h n ∙ off)
 
 pub ready_celled : (keys : List Key) (cells : List Cell) → length cells ≡ length keys → (k : Key) → has keys k ≡ true → is_ready (celled keys cells) k ≡ true
-ready_celled keys cells h (Term t) e = found_term keys cells h t ∙ e
-ready_celled keys cells h (Ctx n) e = found_ctx keys cells h n ∙ e
-ready_celled keys cells h Whole e = refl
+ready_celled keys cells h k e = grind (arith, found_term, found_ctx)
 
 -- where nothing is out, keys with a cell for each are a part's
 pub packed : (keys : List Key) (cells : List Cell) → length cells ≡ length keys → NoneIsOut (celled keys cells) → ArePacked keys (celled keys cells)
@@ -195,9 +182,7 @@ module _ (keys : List Key) (cells : List Cell) (i : ℕ) (order : IsInOrder keys
 -- ---- what went out of a cell
 
 pub with_cell_out : (s : Stored) (k : Key) (c : Cell) → with_cell k (out_cell k c) s ≡ with_out s k
-with_cell_out s (Term t) c = refl
-with_cell_out s (Ctx n) c = refl
-with_cell_out s Whole c = refl
+with_cell_out s k c = grind arith
 
 -- ---- cells that a slice of them wrote back
 
@@ -207,8 +192,7 @@ written_back new old n h g = ap (λ m. take m (new ++ drop (length new) old)) (s
 -- ---- no entry is but at the keys
 
 entry_placed : {A : Type 0} (o : Option (Place A)) → is_some (visible o) ≡ true → is_some o ≡ true
-entry_placed None h = h
-entry_placed (Some p) h = refl
+entry_placed o h = grind arith
 
 pub packed_part : (keys : List Key) (s : Stored) → ArePacked keys s → IsPart (Only keys) (maps_of s)
 packed_part keys s p = record {

@@ -54,9 +54,6 @@ less Greater h = cc
 pub in_order : (keys : List Key) → AllAdjacentBelow (λ x y. true ≡ is_lt (key_cmp x y)) keys (length keys) → IsInOrder keys
 in_order keys h = sorted_from_all_adjacent key_total keys Whole (λ k l. less (key_cmp (get_or keys k Whole) (get_or keys (k + 1) Whole)) (h k Whole l))
 
-pub same_keys : (a b : List Key) → IsPermutation a b → (k : Key) → has b k ≡ has a k
-same_keys a b moved k = sym (list_any-IsPermutation (same_key k) a b moved)
-
 pub list_of_same : (keys moved given : List Key) → ((k : Key) → has moved k ≡ has given k) → IsListOf keys moved → IsListOf keys given
 list_of_same keys moved given same l = record { order = l.order; same = λ k. l.same k ∙ same k }
 

@@ -1,11 +1,11 @@
 -- What is written twice, and what is written as it is.
-use Rattle.std.proofs.Common.{nat_eq, ◌≡◌, ℕ, Bool, true, false, cond, List, bytes_eq, Option, refl, sym, ap, ◌∙◌}
+use Rattle.std.proofs.Common.{nat_eq, ◌≡◌, ℕ, Bool, true, false, cond, List, bytes_eq, Option, None, Some, refl, sym, ap, ◌∙◌}
 use Rattle.gw_base.specs.declared.ids.CtxNum.{CtxNum}
 use Rattle.gw_base.proofs.NameTests.{same_name, same_number}
 use Rattle.gw_ctx.specs.Contexts.{ContextRecord}
 use Rattle.gw_term.specs.declared.record.Termination.{Termination}
 use Rattle.gw_table.specs.Maps.{Maps, term, ctx, put_ctx, put_term}
-use Rattle.gw_table.proofs.Lookups.{term-put_term, ctx-put_term, term-put_ctx, ctx-put_ctx, same_maps}
+use Rattle.gw_table.proofs.Lookups.{term-put_term, ctx-put_term, term-put_ctx, ctx-put_ctx, put_ctx-put_ctx, same_maps}
 
 twice : {A : Type 0} (b : Bool) (x y z : A) → cond b x (cond b y z) ≡ cond b x z
 twice true x y z = refl
@@ -31,3 +31,7 @@ put_ctx-same m n o e = same_maps (put_ctx m n o) m (λ q. term-put_ctx m n o q) 
     at : (q : CtxNum) (b : Bool) → nat_eq q.0 n.0 ≡ b → cond b o (ctx m q) ≡ ctx m q
     at q true h = e ∙ ap (ctx m) (sym (same_number q n h))
     at q false h = refl
+
+-- an entry that was taken out and is set again
+pub set_again : (m out new : Maps) (n : CtxNum) (o : Option ContextRecord) → out ≡ put_ctx m n None → new ≡ put_ctx out n o → new ≡ put_ctx m n o
+set_again m out new n o taken set = set ∙ ap (λ (x : Maps). put_ctx x n o) taken ∙ put_ctx-put_ctx m n None o

@@ -5,7 +5,6 @@ pub mod Frames
 pub mod FreeNames
 pub mod Growth
 pub mod InPlace
-pub mod LeftPlaces
 pub mod KeyLists
 pub mod KeyOrder
 pub mod Leaving
@@ -21,8 +20,6 @@ pub mod Provisioning
 pub mod Shown
 pub mod RowChanges
 pub mod Searched
-pub mod SettingLookups
-pub mod Settings
 pub mod SlotNames
 pub mod Standing
 pub mod Swept

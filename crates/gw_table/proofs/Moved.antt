@@ -15,7 +15,7 @@ use Rattle.gw_table.specs.declared.place.Place.TheVariants.{Out}
 use Rattle.gw_table.specs.Cells.{or_empty, cell_from, with_cell}
 use Rattle.gw_table.specs.Maps.{term, ctx, no_maps}
 use Rattle.gw_table.specs.Parts.{restricted, cut, overlaid}
-use Rattle.gw_table.specs.Stored.{Stored, visible, has_left, maps_of, is_ready, names_entry, with_out, AreMoved, AreReady, AreIn, AreAsReady, NoneIsOut, WentOut, CameBack, nothing_stored}
+use Rattle.gw_table.specs.Stored.{Stored, visible, has_left, maps_of, is_ready, with_out, AreMoved, AreReady, AreIn, AreAsReady, NoneIsOut, WentOut, CameBack, nothing_stored}
 use Rattle.gw_table.proofs.Lookups.{same_maps}
 use Rattle.gw_table.proofs.PartLookups.{term-restricted, ctx-restricted, term-cut, ctx-cut, term-overlaid, ctx-overlaid}
 use Rattle.gw_table.proofs.Places.{term-maps_of, ctx-maps_of, got_term, got_ctx, maps_of_nothing, nothing_out}
@@ -178,12 +178,3 @@ module _ (keys : List Key) (from left full : Stored) (m : AreMoved keys from not
   none_out h k = came_back keys from nothing_stored left full m h k ∙ ap (λ x. x && not (has keys k)) (nothing_out k)
 
 -- ---- out and back
-
--- and where nothing else was out, nothing is when they came back
-pub all_back : (keys : List Key) (a b c : Stored) → NoneIsOut a → WentOut keys a b → CameBack keys b c → NoneIsOut c
-all_back keys a b c none w came k = came k ∙ ap (λ x. x && not (has keys k)) (w k ∙ ap (λ x. x || (has keys k && names_entry k)) (none k)) ∙ at (has keys k) (names_entry k)
-  where
-    at : (y z : Bool) → ((false || (y && z)) && not y) ≡ false
-    at true true = refl
-    at true false = refl
-    at false z = refl

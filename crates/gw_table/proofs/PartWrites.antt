@@ -1,22 +1,19 @@
 -- What is set at a key of a part: what stood there, and the part after it.
-use Rattle.std.proofs.Common.{◌≡◌, ℕ, List, length, get_or, set, map, Option, None, Some, refl, subst, sym, ap, ◌∙◌}
+use Rattle.std.proofs.Common.{◌≡◌, ℕ, List, length, get_or, set, map, Option, Some, subst, sym, ap, ◌∙◌}
 use Rattle.std.proofs.lemmas.List.{length-set}
 use Rattle.gw_base.specs.declared.ids.CtxNum.{CtxNum}
 use Rattle.gw_base.specs.declared.key.Key.{Key}
 use Rattle.gw_base.specs.declared.key.Key.TheVariants.{Term, Ctx}
 use Rattle.gw_term.specs.declared.record.Termination.{Termination}
-use Rattle.gw_ctx.specs.Contexts.{ContextRecord, left}
+use Rattle.gw_ctx.specs.Contexts.{ContextRecord}
 use Rattle.gw_table.specs.declared.cell.Cell.{Cell}
 use Rattle.gw_table.specs.declared.cell.Cell.TheVariants.{OfTerm, OfCtx}
 use Rattle.gw_table.specs.Cells.{cell_term, cell_ctx, celled, IsFound}
-use Rattle.gw_table.specs.Joining.{left_at}
 use Rattle.gw_table.specs.KeyLists.{IsInOrder}
-use Rattle.gw_table.specs.Maps.{Maps, number, term, ctx, put_term, put_ctx, names, numbers, context_of}
-use Rattle.gw_table.specs.Members.{unless_empty}
+use Rattle.gw_table.specs.Maps.{number, term, ctx, put_term, put_ctx, names, numbers}
 use Rattle.gw_table.specs.Parts.{Parted, Only, IsPart}
 use Rattle.gw_table.specs.Stored.{Stored, visible, placed, maps_of, NoneIsOut, ArePacked}
 use Rattle.gw_table.proofs.Celled.{term_here, ctx_here, packed, set_cell, packed_part}
-use Rattle.gw_table.proofs.Lookups.{put_ctx-put_ctx}
 use Rattle.gw_table.proofs.Picked.{name_in, number_in, has_name, has_number, picked, names_picked, numbers_picked}
 use Rattle.gw_table.proofs.Places.{term-maps_of, ctx-maps_of, maps-put_term_place, maps-put_ctx_place, in-put_term, in-put_ctx, shown_placed, placed_here}
 
@@ -77,11 +74,3 @@ module _ (keys : List Key) (cells : List Cell) (f : IsFilled keys cells) (now : 
   numbers_of_part l same = ap (λ (x : List Key). map number (picked number_in (has_number now.maps) x)) same ∙ numbers_picked keys now.maps f.0 at_keys
 
 -- ---- what was taken out and is set again
-
-pub set_again : (m out new : Maps) (n : CtxNum) (o : Option ContextRecord) → out ≡ put_ctx m n None → new ≡ put_ctx out n o → new ≡ put_ctx m n o
-set_again m out new n o taken set = set ∙ ap (λ (x : Maps). put_ctx x n o) taken ∙ put_ctx-put_ctx m n None o
-
--- who leaves what stands in a place
-pub left_there : (t : List ℕ) (o : Option ContextRecord) → visible (Some (left_at t (placed o))) ≡ unless_empty (left t (context_of o))
-left_there t None = refl
-left_there t (Some c) = shown_placed (unless_empty (left t c))

@@ -5,7 +5,6 @@ use Rattle.std.specs.Cmp.Lexicographic.{nat_list_cmp_total}
 use Rattle.std.specs.FinMap as finite
 use Rattle.std.specs.FinMap.{get-insert, get-empty, same_map, nat_cmp-IsAntisymmetric}
 use Rattle.std.specs.Ordering.{nat_cmp}
-use Rattle.gw_base.specs.declared.command_words.Service.{Service}
 use Rattle.gw_base.specs.declared.ids.CtxNum.{CtxNum}
 use Rattle.gw_base.specs.declared.key.Key.{Key}
 use Rattle.gw_base.specs.declared.key.Key.TheVariants.{Term, Ctx, Whole}
@@ -14,9 +13,9 @@ use Rattle.gw_base.proofs.NameTests.{name_test, number_test, names_same, same_na
 use Rattle.gw_term.specs.declared.record.Termination.{Termination}
 use Rattle.gw_ctx.specs.Contexts.{ContextRecord}
 use Rattle.gw_table.specs.declared.place.Place.{Place}
-use Rattle.gw_table.specs.declared.place.Place.TheVariants.{Empty, Here, Out}
+use Rattle.gw_table.specs.declared.place.Place.TheVariants.{Here}
 use Rattle.gw_table.specs.Maps.{term, ctx, put_term, put_ctx, no_maps}
-use Rattle.gw_table.specs.Stored.{Stored, visible, has_left, placed, served, emptied, without_ctx, maps_of, is_ready, is_out, put_term_place, put_ctx_place, with_service, nothing_stored, NoneIsOut, AreAsOut, AreSwept}
+use Rattle.gw_table.specs.Stored.{Stored, visible, has_left, placed, maps_of, is_ready, is_out, put_term_place, put_ctx_place, nothing_stored, NoneIsOut, AreAsOut, AreSwept}
 use Rattle.gw_table.proofs.Lookups.{term-put_term, ctx-put_term, term-put_ctx, ctx-put_ctx, same_maps}
 use Rattle.gw_table.proofs.Shown.{got_shown, visible-cond}
 
@@ -75,31 +74,6 @@ maps-put_ctx_place s n p = same_maps (maps_of (put_ctx_place s n p)) (put_ctx (m
     (λ q. term-maps_of (put_ctx_place s n p) q ∙ sym (term-maps_of s q) ∙ sym (term-put_ctx (maps_of s) n (visible (Some p)) q))
     (λ q. ctx-maps_of (put_ctx_place s n p) q ∙ ap (λ o. visible o) (got_ctx s n p q) ∙ sym (visible-cond (nat_eq q.0 n.0) p (finite.get s.contexts q.0))
     ∙ ap (cond (nat_eq q.0 n.0) (visible (Some p))) (sym (ctx-maps_of s q)) ∙ sym (ctx-put_ctx (maps_of s) n (visible (Some p)) q))
-
--- a place that is written as it is
-pub same_term_place : (s : Stored) (t : List ℕ) (p : Place Termination) → finite.get s.terms t ≡ Some p → put_term_place s t p ≡ s
-same_term_place s t p e = same_stored (put_term_place s t p) s (λ q. got_term s t p q ∙ at q (bytes_eq q t) refl) (λ n. refl)
-  where
-    at : (q : List ℕ) (b : Bool) → bytes_eq q t ≡ b → cond b (Some p) (finite.get s.terms q) ≡ finite.get s.terms q
-    at q true h = sym e ∙ ap (finite.get s.terms) (sym (same_name q t h))
-    at q false h = refl
-
-pub served_here : (s : Stored) (t : List ℕ) (state : Service) (p : Place Termination) → finite.get s.terms t ≡ Some p → put_term_place s t (served state p) ≡ with_service state t s (visible (Some p))
-served_here s t state Empty e = same_term_place s t Empty e
-served_here s t state (Here r) e = refl
-served_here s t state Out e = same_term_place s t Out e
-
-pub same_ctx_place : (s : Stored) (n : CtxNum) (p : Place ContextRecord) → finite.get s.contexts n.0 ≡ Some p → put_ctx_place s n p ≡ s
-same_ctx_place s n p e = same_stored (put_ctx_place s n p) s (λ t. refl) (λ q. got_ctx s n p q ∙ at q (nat_eq q.0 n.0) refl)
-  where
-    at : (q : CtxNum) (b : Bool) → nat_eq q.0 n.0 ≡ b → cond b (Some p) (finite.get s.contexts q.0) ≡ finite.get s.contexts q.0
-    at q true h = sym e ∙ ap (λ (x : CtxNum). finite.get s.contexts x.0) (sym (same_number q n h))
-    at q false h = refl
-
-pub emptied_here : (s : Stored) (n : CtxNum) (p : Place ContextRecord) → finite.get s.contexts n.0 ≡ Some p → put_ctx_place s n (emptied p) ≡ without_ctx n s (visible (Some p))
-emptied_here s n Empty e = same_ctx_place s n Empty e
-emptied_here s n (Here r) e = refl
-emptied_here s n Out e = same_ctx_place s n Out e
 
 -- a place of an entry, or of none
 pub shown_placed : {A : Type 0} (o : Option A) → visible (Some (placed o)) ≡ o

@@ -1,5 +1,6 @@
 -- Places that are made, and places that are swept; and a key of a list in order, which is none of those before it.
-use Rattle.std.proofs.Common.{nat_eq, ◌≡◌, ℕ, suc, zero, ◌+◌, ◌<◌, Bool, true, false, cond, List, [], ◌∷◌, ◌++◌, length, get_or, take, bytes_eq, Option, None, Some, is_some, refl, sym, subst, ap, ◌∙◌, arith}
+use Rattle.std.proofs.lemmas.Grind.{common_steps}
+use Rattle.std.proofs.Common.{◌≡◌, ℕ, suc, zero, ◌+◌, ◌<◌, Bool, true, false, cond, List, [], ◌∷◌, ◌++◌, length, get_or, take, bytes_eq, Option, None, Some, is_some, refl, sym, subst, ap, ◌∙◌, arith}
 use Rattle.std.proofs.lemmas.List.{take_more}
 use Rattle.std.specs.Prelude.{◌||◌}
 use Rattle.std.specs.Cmp.{IsTotalOrder}
@@ -18,11 +19,11 @@ use Rattle.gw_base.specs.declared.key.Key.TheVariants.{Term, Ctx, Whole}
 use Rattle.gw_base.specs.Keys.{same_key, has}
 use Rattle.gw_base.proofs.Booleans.{refuted}
 use Rattle.gw_base.proofs.KeyTests.{has-head, has-tail}
-use Rattle.gw_base.proofs.NameTests.{same_name, same_number}
+use Rattle.gw_base.proofs.NameTests.{same_name}
 use Rattle.gw_base.proofs.NamesInLists.{or_left, or_right, or_cases, either}
 use Rattle.gw_base.proofs.Views.{seen}
 use Rattle.gw_table.specs.declared.place.Place.{Place}
-use Rattle.gw_table.specs.declared.place.Place.TheVariants.{Empty, Here, Out}
+use Rattle.gw_table.specs.declared.place.Place.TheVariants.{Empty}
 use Rattle.gw_table.specs.Cells.{cell_from, with_cell, IsFound}
 use Rattle.gw_table.specs.KeyLists.{key_cmp, IsInOrder}
 use Rattle.gw_table.specs.Stored.{Stored, visible, if_visible, has_left, maps_of, is_ready, put_term_place, put_ctx_place, with_out, AreMoved, ArePrepared, AreAsOut, NoneIsOut, AreSwept, AreReady, NoOtherReady}
@@ -33,41 +34,17 @@ use Rattle.gw_table.proofs.Places.{term-maps_of, ctx-maps_of, shown_alike, got_t
 -- ---- places are made
 
 or_nothing : (b : Bool) → b ≡ (b || false)
-or_nothing true = refl
-or_nothing false = refl
-
-regroup : (a b c : Bool) → ((a || b) || c) ≡ (a || (b || c))
-regroup true b c = refl
-regroup false b c = refl
+or_nothing b = grind arith
 
 -- a key that was prepared
 there_already : {K A : Type 0} (f : K → Option A) (b : Bool) (q t : K) → (b ≡ true → q ≡ t) → is_some (f t) ≡ true → is_some (f q) ≡ (is_some (f q) || (b || false))
-there_already f true q t is h = let here : is_some (f q) ≡ true = ap (λ y. is_some (f y)) (is refl) ∙ h in here ∙ sym (ap (λ y. y || true) here)
-there_already f false q t is h = or_nothing (is_some (f q))
+there_already f b q t is h = grind arith
 
 pub term_there : (s : Stored) (t : List ℕ) → is_ready s (Term t) ≡ true → ArePrepared (Term t ∷ []) s s
-term_there s t h = record { maps = refl; out = λ k. refl; ready = at }
-  where
-    at : (k : Key) → is_ready s k ≡ (is_ready s k || has (Term t ∷ []) k)
-    at (Term q) = there_already (λ y. finite.get s.terms y) (bytes_eq q t) q t (same_name q t) h
-    at (Ctx n) = or_nothing (is_ready s (Ctx n))
-    at Whole = refl
+term_there s t h = grind (arith, there_already, same_name)
 
 pub ctx_there : (s : Stored) (n : CtxNum) → is_ready s (Ctx n) ≡ true → ArePrepared (Ctx n ∷ []) s s
-ctx_there s n h = record { maps = refl; out = λ k. refl; ready = at }
-  where
-    at : (k : Key) → is_ready s k ≡ (is_ready s k || has (Ctx n ∷ []) k)
-    at (Term q) = or_nothing (is_ready s (Term q))
-    at (Ctx q) = there_already (λ (y : CtxNum). finite.get s.contexts y.0) (nat_eq q.0 n.0) q n (same_number q n) h
-    at Whole = refl
-
-pub whole_there : (s : Stored) → ArePrepared (Whole ∷ []) s s
-whole_there s = record { maps = refl; out = λ k. refl; ready = at }
-  where
-    at : (k : Key) → is_ready s k ≡ (is_ready s k || has (Whole ∷ []) k)
-    at (Term q) = or_nothing (is_ready s (Term q))
-    at (Ctx q) = or_nothing (is_ready s (Ctx q))
-    at Whole = refl
+ctx_there s n h = grind arith
 
 -- one that was not
 module _ {K A : Type 0} (f : K → Option (Place A)) (q t : K) (none : f t ≡ None) where
@@ -101,39 +78,17 @@ term_made s t none = record {
     ready Whole = refl
 
 pub ctx_made : (s : Stored) (n : CtxNum) → finite.get s.contexts n.0 ≡ None → ArePrepared (Ctx n ∷ []) s (put_ctx_place s n Empty)
-ctx_made s n none = record {
-  maps = shown_alike (put_ctx_place s n Empty) s (λ t. refl) (λ q. ap (λ o. visible o) (got_ctx s n Empty q) ∙ same_shown (λ (y : CtxNum). finite.get s.contexts y.0) q n none (nat_eq q.0 n.0) (same_number q n));
-  out = out;
-  ready = ready;
-}
-  where
-    out : AreAsOut s (put_ctx_place s n Empty)
-    out (Term q) = refl
-    out (Ctx q) = ap (λ o. has_left o) (got_ctx s n Empty q) ∙ same_out (λ (y : CtxNum). finite.get s.contexts y.0) q n none (nat_eq q.0 n.0) (same_number q n)
-    out Whole = refl
-
-    ready : (k : Key) → is_ready (put_ctx_place s n Empty) k ≡ (is_ready s k || has (Ctx n ∷ []) k)
-    ready (Term q) = or_nothing (is_ready s (Term q))
-    ready (Ctx q) = ap (λ o. is_some o) (got_ctx s n Empty q) ∙ now_there (λ (y : CtxNum). finite.get s.contexts y.0) q n none (nat_eq q.0 n.0) (same_number q n)
-    ready Whole = refl
+ctx_made s n none = grind (arith, shown_alike, got_ctx)
 
 -- ---- what follows of the keys so far, and of all
 
 any_front : (x : Key) (keys : List Key) (i : ℕ) → has keys x ≡ false → has (take i keys) x ≡ false
 any_front x keys zero h = refl
 any_front x [] (suc i) h = refl
-any_front x (y ∷ ys) (suc i) h = by (same_key x y) (has ys x) h (any_front x ys i)
-  where
-    by : (a b : Bool) → (a || b) ≡ false → (b ≡ false → has (take i ys) x ≡ false) → (a || has (take i ys) x) ≡ false
-    by true b h f = absurd cc
-    by false b h f = f h
+any_front x (y ∷ ys) (suc i) h = grind (arith, any_front x ys i)
 
 pub no_other_ready : (keys : List Key) (i : ℕ) (a b : Stored) → ArePrepared (take i keys) a b → NoOtherReady keys a b
-no_other_ready keys i a b p k off h = by (is_ready a k) (has (take i keys) k) (sym (p.ready k) ∙ h) (any_front k keys i off)
-  where
-    by : (x y : Bool) → (x || y) ≡ true → y ≡ false → x ≡ true
-    by true y h o = refl
-    by false y h o = absurd (let clash : true ≡ false = sym h ∙ o in cc)
+no_other_ready keys i a b p k off h = grind (arith, any_front)
 
 -- ---- places are swept
 
@@ -141,22 +96,13 @@ pub swept : {K X : Type 0} {R : K → K → Ordering} (total : IsTotalOrder R) (
 swept total es fs is q = seen total fs q ∙ is q ∙ ap (λ o. if_visible o) (sym (seen total es q))
 
 pub shown_same : {A : Type 0} (o : Option (Place A)) → visible (if_visible o) ≡ visible o
-shown_same None = refl
-shown_same (Some Empty) = refl
-shown_same (Some (Here a)) = refl
-shown_same (Some Out) = refl
+shown_same o = grind arith
 
 pub none_left : {A : Type 0} (o : Option (Place A)) → has_left (if_visible o) ≡ false
-none_left None = refl
-none_left (Some Empty) = refl
-none_left (Some (Here a)) = refl
-none_left (Some Out) = refl
+none_left o = grind arith
 
 only_shown : {A : Type 0} (o : Option (Place A)) → is_some (if_visible o) ≡ is_some (visible (if_visible o))
-only_shown None = refl
-only_shown (Some Empty) = refl
-only_shown (Some (Here a)) = refl
-only_shown (Some Out) = refl
+only_shown o = grind arith
 
 -- only places with an entry are left
 pub record AreShown (a b : Stored) : Type 0 where
@@ -182,9 +128,7 @@ swapped : (a b : Key) → a ≡ b → same_key a b ≡ same_key b a
 swapped a b e = ap (λ k. same_key k b) e ∙ ap (λ k. same_key b k) (sym e)
 
 all_at : {K : Type 0} (P : K → Type 0) (xs : List K) (i : ℕ) (d : K) → i < length xs → AllByRecursion P xs → P (get_or xs i d)
-all_at P [] i d h a = absurd (omega arith)
-all_at P (x ∷ xs) zero d h a = a.0
-all_at P (x ∷ xs) (suc i) d h a = all_at P xs i d (omega arith) a.1
+all_at P xs i d h a = grind (arith, common_steps)
 
 pub not_before : (keys : List Key) (i : ℕ) (d : Key) → i < length keys → IsInOrder keys → has (take i keys) (get_or keys i d) ≡ false
 unfolding IsStrictlySortedBy

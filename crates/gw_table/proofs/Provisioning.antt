@@ -1,5 +1,6 @@
 -- Tables into which configured names are put one by one.
-use Rattle.std.proofs.Common.{◌≡◌, ℕ, zero, suc, ◌<◌, ◌≤◌, Bool, true, false, cond, List, [], ◌∷◌, ◌++◌, length, get_or, Option, None, Some, inl, inr, bytes_eq, refl, sym, ap, subst, ◌∙◌, arith}
+use Rattle.std.proofs.lemmas.Grind.{common_steps}
+use Rattle.std.proofs.Common.{◌≡◌, ℕ, ◌<◌, ◌≤◌, Bool, true, false, cond, List, [], ◌∷◌, ◌++◌, length, get_or, Option, None, Some, inl, inr, bytes_eq, refl, sym, ap, subst, ◌∙◌, arith}
 use Rattle.std.specs.Prelude.{◌||◌, ◌⊎◌}
 use Rattle.std.specs.Cmp.Lexicographic.{nat_list_cmp_total}
 use Rattle.std.specs.Ordering.{nat_cmp}
@@ -16,7 +17,7 @@ use Rattle.gw_base.proofs.Booleans.{refuted}
 use Rattle.gw_ctx.specs.Contexts.{ContextRecord}
 use Rattle.gw_ctx.specs.Fitting.{IsFit}
 use Rattle.gw_ctx.proofs.Fits.{fit_new}
-use Rattle.gw_base.proofs.NamesInLists.{in_pushed, or_left, or_right, itself}
+use Rattle.gw_base.proofs.NamesInLists.{in_pushed, itself}
 use Rattle.gw_table.specs.Maps.{Maps, term, ctx, put_term, context_of, members_of, place_of, no_maps, new_maps}
 use Rattle.gw_table.specs.Provided.{put_missing, AreAmong}
 use Rattle.gw_table.specs.Reserved.{is_reserved}
@@ -28,8 +29,7 @@ abbrev pub if_in : Bool → Option Termination
 if_in b = cond b (Some provisioned) None
 
 either_in : (a b : Bool) → cond a (Some provisioned) (if_in b) ≡ if_in (a || b)
-either_in true b = refl
-either_in false b = refl
+either_in a b = grind arith
 
 term-new_maps : (names : List (List ℕ)) (q : List ℕ) → term (new_maps names) q ≡ if_in (is_in q names)
 term-new_maps [] q = get-empty name_cmp q
@@ -40,8 +40,7 @@ term-new_maps (t ∷ ts) q =
     ∙ either_in (bytes_eq q t) (is_in q ts)
 
 same_contexts : (m : Maps) (t : List ℕ) (o : Option Termination) → (put_term m t o).contexts ≡ m.contexts
-same_contexts m t None = refl
-same_contexts m t (Some r) = refl
+same_contexts m t o = grind arith
 
 pub among_nothing : (names : List (List ℕ)) → AreAmong names no_maps
 among_nothing names = record { terms = λ q r e. let none : None ≡ Some r = sym (get-empty name_cmp q) ∙ e in absurd cc; contexts = refl }
@@ -138,6 +137,4 @@ new_maps_fit limit names free = record {
 -- ---- one of a list
 
 pub in_at : (names : List (List ℕ)) (i : ℕ) (t : List ℕ) → i < length names → t ≡ get_or names i t → is_in t names ≡ true
-in_at [] i t h e = absurd (omega (arith, h))
-in_at (x ∷ xs) zero t h e = or_left (bytes_eq t x) (is_in t xs) (ap (bytes_eq t) (sym e) ∙ itself t)
-in_at (x ∷ xs) (suc i) t h e = or_right (bytes_eq t x) (is_in t xs) (in_at xs i t (omega (arith, h)) e)
+in_at names i t h e = grind (arith, common_steps, itself)

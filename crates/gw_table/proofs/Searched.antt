@@ -1,4 +1,5 @@
 -- What a search among keys in order finds.
+use Rattle.std.proofs.lemmas.Grind.{common_steps}
 use Rattle.std.proofs.Common.{◌≡◌, ℕ, suc, zero, ◌+◌, ◌<◌, ◌≤◌, Bool, true, false, List, [], ◌∷◌, length, get_or, Result, Ok, Err, refl, sym, ap, subst, ◌∙◌, arith}
 use Rattle.std.specs.Prelude.{◌||◌}
 use Rattle.std.specs.List.{AllByRecursion}
@@ -6,7 +7,7 @@ use Rattle.std.specs.List.Sorted.{IsSearchInRange, IsBinarySearchResult, IsStric
 use Rattle.std.specs.Ordering.{is_eq, is_lt, ordering_reverse}
 use Rattle.std.specs.Result.{result_ok}
 use Rattle.std.specs.declared.cmp.Ordering.{Ordering}
-use Rattle.std.specs.declared.cmp.Ordering.TheVariants.{Less, Equal, Greater}
+use Rattle.std.specs.declared.cmp.Ordering.TheVariants.{Less}
 use Rattle.std.proofs.lemmas.List.Sorted.{searchable_from_sorted}
 use Rattle.gw_base.specs.declared.key.Key.{Key}
 use Rattle.gw_base.specs.Keys.{same_key, has}
@@ -15,9 +16,7 @@ use Rattle.gw_table.specs.KeyLists.{key_cmp, IsInOrder}
 use Rattle.gw_table.proofs.KeyOrder.{key_total, key_test, keys_tie}
 
 all_at : {K : Type 0} (P : K → Type 0) (xs : List K) (i : ℕ) (d : K) → i < length xs → AllByRecursion P xs → P (get_or xs i d)
-all_at P [] i d h a = absurd (omega arith)
-all_at P (x ∷ xs) zero d h a = a.0
-all_at P (x ∷ xs) (suc i) d h a = all_at P xs i d (omega arith) a.1
+all_at P xs i d h a = grind (arith, common_steps)
 
 not_less : (r s : Ordering) → r ≡ ordering_reverse s → s ≡ Less → is_lt r ≡ false
 not_less r s e h = ap is_lt (e ∙ ap ordering_reverse h)
@@ -42,9 +41,7 @@ none_ties (x ∷ xs) k h = both (same_key k x) (has xs k) (sym (key_test k x) �
     both false b e f = f
 
 turned : (r s : Ordering) → r ≡ ordering_reverse s → is_eq s ≡ false → is_eq r ≡ false
-turned r Less e h = ap is_eq e
-turned r Equal e h = absurd cc
-turned r Greater e h = ap is_eq e
+turned r s e h = grind arith
 
 below_or_not : (i j : ℕ) (P : Type 0) → (i < j → P) → (j ≤ i → P) → P
 below_or_not zero zero P f g = g (omega arith)

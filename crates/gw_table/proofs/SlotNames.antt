@@ -9,7 +9,6 @@ use Rattle.std.specs.Str.Parse.{AllDigits, digits_value, digits_value_after}
 use Rattle.std.proofs.Math.Seq.{drop-cons}
 use Rattle.std.proofs.lemmas.Fmt.{decimal_is_IsNumeral, length-decimal-le, decimal_injective, decimal-digits_value, decimal_nonempty, first_decimal, digits_decimal, digits_value-decimal}
 use Rattle.std.proofs.lemmas.Slice.Eq.{starts_is}
-use Rattle.std.proofs.lemmas.Str.{digit_value_digit}
 use Rattle.std.proofs.lemmas.Str.Parse.{IsNumeralModel, digit_from_value, numerals_by_value, tells_all_ascii_digits}
 use Rattle.std.proofs.lemmas.List.{take_at}
 use Rattle.gw_base.proofs.NamesInLists.{or_left, or_right}
@@ -101,9 +100,6 @@ no_number name digits s are small large e =
 next_at : (text : List ℕ) (i : ℕ) → i < length text → drop i text ≡ get_or text i 0 ∷ drop (i + 1) text
 next_at text i h = drop-cons text i 0 h ∙ ap (λ (k : ℕ). get_or text i 0 ∷ drop k text) (sym (add-one i))
 
-digit_range : (c : ℕ) → is_ascii_digit c ≡ true → IsInRange 48 57 c
-digit_range c e = search rules
-
 pub others_digits : (text : List ℕ) (i : ℕ) (b : Bool) → i < length text → is_ascii_digit (get_or text i 0) ≡ b → all_ascii_digits (drop i text) ≡ b && all_ascii_digits (drop (i + 1) text)
 others_digits text i b h is = ap (λ (l : List ℕ). all_ascii_digits l) (next_at text i h) ∙ ap (λ (x : Bool). x && all_ascii_digits (drop (i + 1) text)) is
 
@@ -118,9 +114,7 @@ pub grown : (text : List ℕ) (i number total : ℕ) → digits_value_after 10 n
 grown text i number total e = omega (arith, digits_grow number (drop i text))
 
 pub one_more_digit : (text : List ℕ) (i number total : ℕ) → i < length text → is_ascii_digit (get_or text i 0) ≡ true → digits_value_after 10 number (drop i text) ≡ total → digits_value_after 10 (number * 10 + (get_or text i 0 - 48)) (drop (i + 1) text) ≡ total
-one_more_digit text i number total h is so_far =
-    let digit : get_or text i 0 - 48 ≡ digit_value (get_or text i 0) = omega (arith, digit_value_digit (get_or text i 0) (digit_range (get_or text i 0) is)) in
-    ap (λ (d : ℕ). digits_value_after 10 (number * 10 + d) (drop (i + 1) text)) digit ∙ sym (ap (digits_value_after 10 number) (next_at text i h)) ∙ so_far
+one_more_digit text i number total h is so_far = grind (arith, next_at)
 
 pub found_slot : (name digits : List ℕ) (r : Option ℕ) → starts_with nat_eq name (codes "RTP/") ≡ true → digits ≡ drop 4 name → 0 < length digits → (get_or digits 0 0 ≡ 48 → length digits ≡ 1)
     → IfSome r (λ n. n ≡ digits_value 10 digits) → IfSome r (λ n. all_ascii_digits digits ≡ true) → IfSome r (λ n. n < 4096) → IfSome r (λ s. slot_name s ≡ name)

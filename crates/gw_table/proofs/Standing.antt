@@ -1,10 +1,9 @@
 -- Marks of entries, kept through each change of a place.
 use Rattle.std.proofs.Common.{◌≡◌, ℕ, ◌<◌, Bool, true, false, cond, List, Option, Some, is_some, bytes_eq, nat_eq, eq-eqb, eqb-true, refl, sym, ap, subst, ◌∙◌}
-use Rattle.std.specs.FinMap as finite
 use Rattle.gw_base.specs.declared.ids.CtxNum.{CtxNum}
 use Rattle.gw_base.proofs.NameTests.{same_name, name_itself}
 use Rattle.gw_ctx.specs.Contexts.{ContextRecord}
-use Rattle.gw_bits.specs.BitSets.{has_bit, IsBlank}
+use Rattle.gw_bits.specs.BitSets.{has_bit}
 use Rattle.gw_term.specs.declared.record.Termination.{Termination}
 use Rattle.gw_table.specs.declared.place.Place.{Place}
 use Rattle.gw_table.specs.Maps.{Maps, term, ctx, number, put_term, put_ctx}
@@ -13,13 +12,6 @@ use Rattle.gw_table.specs.Reserved.{slot_name}
 use Rattle.gw_table.specs.Stored.{Stored, visible, maps_of, put_term_place, put_ctx_place}
 use Rattle.gw_table.proofs.Lookups.{term-put_term, ctx-put_term, term-put_ctx, ctx-put_ctx}
 use Rattle.gw_table.proofs.Places.{maps-put_term_place, maps-put_ctx_place}
-
--- nothing is marked
-pub none_marked : (numbers slots : List ℕ) (m : Maps) → IsBlank numbers → IsBlank slots → AreSet numbers slots m
-none_marked numbers slots m a b = record {
-  contexts = λ n h. let clash : true ≡ false = sym h ∙ a n in absurd cc;
-  terms = λ s l h. let clash : true ≡ false = sym h ∙ b s in absurd cc;
-}
 
 -- the maps are the same
 pub marked_still : (numbers slots : List ℕ) (m n : Maps) → n ≡ m → AreSet numbers slots m → AreSet numbers slots n

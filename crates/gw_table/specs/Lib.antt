@@ -5,8 +5,6 @@ pub mod Folds
 pub mod Found
 pub mod Free
 pub mod Gone
-pub mod Joining
-pub mod KeptSettings
 pub mod KeyLists
 pub mod Locality
 pub mod Maps
@@ -17,7 +15,6 @@ pub mod Parts
 pub mod Reserved
 pub mod RowLending
 pub mod Rows
-pub mod Settings
 pub mod Provided
 pub mod Stored
 pub mod TableTexts

@@ -174,28 +174,6 @@ put_term_place s t p = record { terms = finite.insert s.terms t p; contexts = s.
 abbrev pub put_ctx_place : Stored → CtxNum → Place ContextRecord → Stored
 put_ctx_place s n p = record { terms = s.terms; contexts = finite.insert s.contexts n.0 p }
 
--- where a termination stands, it has another service state
-abbrev pub served : Service → Place Termination → Place Termination
-served state Empty = Empty
-served state (Here r) = Here (serviced r state)
-served state Out = Out
-
--- what stands there was taken out
-abbrev pub emptied : {A : Type 0} → Place A → Place A
-emptied Empty = Empty
-emptied (Here a) = Empty
-emptied Out = Out
-
--- the context with a number, which is this one, was taken out
-abbrev pub without_ctx : CtxNum → Stored → Option ContextRecord → Stored
-without_ctx n s None = s
-without_ctx n s (Some c) = put_ctx_place s n Empty
-
--- the termination of a name, which is this one, has another service state
-abbrev pub with_service : Service → List ℕ → Stored → Option Termination → Stored
-with_service state t s None = s
-with_service state t s (Some r) = put_term_place s t (Here (serviced r state))
-
 -- there is no place for the key any more
 abbrev pub drop_term_place : Stored → List ℕ → Stored
 drop_term_place s t = record { terms = finite.remove s.terms t; contexts = s.contexts }

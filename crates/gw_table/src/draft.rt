@@ -4,6 +4,7 @@ ghost use Rattle.std.specs.Prelude.{◌≡◌, ◌<◌, None, true, false, lengt
 ghost use Rattle.gw_base.specs.declared.key.Key.{Key};
 ghost use Rattle.gw_base.specs.declared.key.Key.TheVariants.{Term, Ctx};
 ghost use Rattle.gw_base.specs.NameLists.{is_in};
+ghost use Rattle.gw_ctx.specs.Contexts.{joined};
 ghost use Rattle.gw_table.specs.Maps.{term, ctx, put_term, put_ctx, names, numbers, members_of};
 ghost use Rattle.gw_table.specs.Members.{put_service, with_member, without_member};
 ghost use Rattle.gw_table.specs.UndoLog.{keys_written, undone};
@@ -16,10 +17,23 @@ use crate::part::Part;
 use crate::tables::Tables;
 use crate::undo_log::UndoLog;
 use gw_base::{CtxNum, NoMemory, Service, TermName};
-use gw_ctx::Context;
+use gw_ctx::{Context, JoinFault};
 use gw_term::Termination;
 use std::alloc::Global;
 use std::marker::Model;
+
+/// The name joins the context as its last member. The caller knows that there is room.
+fn joined(context: &mut Context, name: TermName, limit: usize) -> Result<(), NoMemory>
+    requires new { is_in name context.old.members ≡ false }
+    requires room { length context.old.members < limit }
+    ensures { OnOk result (context.new ≡ joined name context.old) }
+{
+    match context.join(name, limit) {
+        Ok(()) => Ok(()),
+        Err(JoinFault::Full) => unreachable!(),
+        Err(JoinFault::NoMemory) => Err(NoMemory),
+    }
+}
 
 /// What a draft works on.
 #[derive(Drop)]
@@ -31,8 +45,8 @@ pub(crate) enum Backing {
 }
 
 /// Whole tables that are changed in place, with an undo log; or a part that is changed in place, without one. What is
-/// read at a key is what was written there last. A record is moved and not copied, but where some of it is changed in
-/// whole tables: then what stood there is logged, and a copy is changed.
+/// read at a key is what was written there last. A context that is taken out of whole tables is a copy where what stood
+/// there is logged; what is set is moved.
 pub struct Draft {
     pub(crate) backing: Backing,
 }
@@ -166,8 +180,8 @@ impl Draft {
         }
     }
 
-    /// The termination of a name has another service state, if there is one. The caller knows that the name is one of
-    /// the draft's keys.
+    /// The termination of a name has another service state, if there is one: a copy of it is set. The caller knows that
+    /// the name is one of the draft's keys.
     ///
     /// # Errors
     ///
@@ -177,19 +191,17 @@ impl Draft {
         ensures maps { OnOk result (self.new.maps ≡ put_service service name.now self.old.maps (term self.old.maps name.now)) }
         ensures keys { self.new.keys ≡ self.old.keys }
     {
-        match &mut self.backing {
-            Backing::OfPart(part) => {
-                part.set_service(name, service);
-                Ok(())
-            }
-            Backing::OfTables(backing) => backing.set_service(name, service),
-        }
+        let Some(termination) = self.term(name) else {
+            return Ok(());
+        };
+        let mut termination = termination.clone()?;
+        termination.set_service(service);
+        self.set_term(*name, Some(termination))
     }
 
     /// The name joins the context as its last member. A context comes into being with its first. The caller knows
     /// that the number is one of the draft's keys, that the name is no member, and that there are fewer members than
-    /// `limit`. In whole tables it is one look-up, or two where the context comes into being, and a copy of a context
-    /// that was not written before.
+    /// `limit`. It takes the context out and sets it again.
     ///
     /// # Errors
     ///
@@ -207,14 +219,16 @@ impl Draft {
         ensures maps { OnOk result (self.new.maps ≡ with_member number name self.old.maps) }
         ensures keys { self.new.keys ≡ self.old.keys }
     {
-        match &mut self.backing {
-            Backing::OfPart(part) => part.join(alloc, number, name, limit),
-            Backing::OfTables(backing) => backing.join(alloc, number, name, limit),
-        }
+        let mut context = match self.take_ctx(number)? {
+            Some(context) => context,
+            None => Context::new(alloc),
+        };
+        joined(&mut context, name, limit)?;
+        self.set_ctx(number, Some(context))
     }
 
     /// The name leaves the context, which ends if it is empty. The caller knows that the number is one of the draft's
-    /// keys. In whole tables it is one look-up, and a copy of a context that was not written before.
+    /// keys. It takes the context out, and sets it again where a member is left.
     ///
     /// # Errors
     ///
@@ -224,13 +238,14 @@ impl Draft {
         ensures maps { OnOk result (self.new.maps ≡ without_member number name.now self.old.maps) }
         ensures keys { self.new.keys ≡ self.old.keys }
     {
-        match &mut self.backing {
-            Backing::OfPart(part) => {
-                part.leave(number, name);
-                Ok(())
-            }
-            Backing::OfTables(backing) => backing.leave(number, name),
+        let Some(mut context) = self.take_ctx(number)? else {
+            return Ok(());
+        };
+        context.leave(name);
+        if context.members().is_empty() {
+            return Ok(());
         }
+        self.set_ctx(number, Some(context))
     }
 
     /// The names of all terminations that the draft shows, in the order of their bytes. The work is one pass over the

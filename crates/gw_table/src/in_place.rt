@@ -2,16 +2,16 @@
 
 ghost use Rattle.std.specs.Prelude.{◌≡◌, None, IfOk, OnOk, OnErr};
 ghost use Rattle.gw_table.specs.Maps.{term, ctx, put_term, put_ctx};
-ghost use Rattle.gw_table.specs.Members.{put_service};
 ghost use Rattle.gw_table.specs.UndoLog.{keys_written, undone};
 ghost use Rattle.gw_table.specs.Parts.{Over, start_of};
 ghost use Rattle.gw_table.specs.Stored.{maps_of, NoneIsOut, AreReady, KeepReady, NoOtherReady};
 
 use crate::place::Place;
 use crate::row::Found;
+use crate::rows::Guide;
 use crate::tables::Tables;
 use crate::undo_log::{UndoLog, Write, make_room};
-use gw_base::{CtxNum, NoMemory, Service, TermName};
+use gw_base::{CtxNum, NoMemory, TermName};
 use gw_ctx::Context;
 use gw_term::Termination;
 use std::alloc::Global;
@@ -20,7 +20,7 @@ use std::snapshot::Snapshot;
 
 /// Tables that are changed in place, with an undo log: the first write of each key is logged with what stood there,
 /// and taking the log back needs no memory. A look-up is one in the tables, and a write takes one. The log has one
-/// write for each key, however often it is written, and the properties of a context that were set before.
+/// write for each key, however often it is written.
 pub(crate) struct InPlace {
     pub(crate) tables: Tables,
     pub(crate) writes: Vec<Write>,
@@ -81,11 +81,13 @@ impl InPlace {
         let found = self
             .tables
             .write_term(name, Place::of(entry), &self.writes)?;
-        let Found::Unlogged(before) = found else {
-            return Ok(());
-        };
-        self.writes.push_reserved(Write::OfTerm(*name, before));
-        Ok(())
+        match found {
+            Found::Logged(_) => Ok(()),
+            Found::Unlogged(before) => {
+                self.writes.push_reserved(Write::OfTerm(*name, before));
+                Ok(())
+            }
+        }
     }
 
     /// Sets the context with a number, or none, as `set_term` does.
@@ -98,11 +100,13 @@ impl InPlace {
         let found = self
             .tables
             .write_ctx(number, Place::of(entry), &self.writes)?;
-        let Found::Unlogged(before) = found else {
-            return Ok(());
-        };
-        self.writes.push_reserved(Write::OfCtx(number, before));
-        Ok(())
+        match found {
+            Found::Logged(_) => Ok(()),
+            Found::Unlogged(before) => {
+                self.writes.push_reserved(Write::OfCtx(number, before));
+                Ok(())
+            }
+        }
     }
 
     /// Takes the context with a number out, to be changed and set again: the context itself where it was written
@@ -114,29 +118,24 @@ impl InPlace {
         ensures keys { self.new.keys ≡ self.old.keys }
     {
         make_room(&mut self.writes)?;
-        let (context, found) = self.tables.take_ctx(number, &self.writes)?;
-        let Some(before) = found.into_unlogged() else {
-            return Ok(context);
-        };
-        self.writes
-            .push_reserved(Write::OfCtx(number, Some(before)));
-        Ok(context)
-    }
-
-    /// The termination of a name has another service state, if there is one: in its place where it was written
-    /// before, and else as a copy, since what stood there is logged.
-    pub(crate) fn set_service(&mut self, name: &TermName, service: Service) -> Result<(), NoMemory>
-        ensures maps { OnOk result (self.new.maps ≡ put_service service name.now self.old.maps (term self.old.maps name.now)) }
-        ensures keys { self.new.keys ≡ self.old.keys }
-    {
-        make_room(&mut self.writes)?;
-        let found = self.tables.set_service(name, service, &self.writes)?;
-        let Some(before) = found.into_unlogged() else {
-            return Ok(());
-        };
-        self.writes
-            .push_reserved(Write::OfTerm(*name, Some(before)));
-        Ok(())
+        let found = self.tables.write_ctx(number, Place::Empty, &self.writes)?;
+        match found {
+            Found::Logged(context) => Ok(context),
+            Found::Unlogged(None) => {
+                self.writes.push_reserved(Write::OfCtx(number, None));
+                Ok(None)
+            }
+            Found::Unlogged(Some(before)) => {
+                let Ok(context) = before.copy() else {
+                    self.tables
+                        .exchange_ctx(&mut Guide::none(), number, Place::Here(before));
+                    return Err(NoMemory);
+                };
+                self.writes
+                    .push_reserved(Write::OfCtx(number, Some(before)));
+                Ok(Some(context))
+            }
+        }
     }
 
     /// The tables as they are, and what stood there before.

@@ -4,13 +4,12 @@ ghost use Rattle.std.specs.Prelude.{◌≡◌, true, IfOk, option_copied};
 ghost use Rattle.gw_base.specs.declared.key.Key.TheVariants.{Term, Ctx};
 ghost use Rattle.gw_table.specs.KeyLists.{IsInOrder};
 ghost use Rattle.gw_table.specs.Maps.{term, ctx, put_term, put_ctx, names, numbers};
-ghost use Rattle.gw_table.specs.Members.{put_service};
 ghost use Rattle.gw_table.specs.Parts.{list_of, holds, IsPart};
 
 use crate::cell::{Cell, find_name, find_number};
 use crate::place::Place;
 use crate::rows::Guide;
-use gw_base::{CtxNum, Key, NoMemory, Service, TermName};
+use gw_base::{CtxNum, Key, NoMemory, TermName};
 use gw_ctx::Context;
 use gw_term::Termination;
 use std::alloc::Global;
@@ -122,19 +121,6 @@ impl Part {
                 .into_ctx()
                 .into_entry(),
             None => unreachable!(),
-        }
-    }
-
-    /// The termination of a name has another service state, if there is one. The caller knows that the name is one of
-    /// the part's keys.
-    pub(crate) fn set_service(&mut self, name: &TermName, service: Service)
-        requires { holds self.old.keys (Term name.now) ≡ true }
-        ensures maps { self.new.maps ≡ put_service service name.now self.old.maps (term self.old.maps name.now) }
-        ensures keys { self.new.keys ≡ self.old.keys }
-    {
-        if let Some(mut termination) = self.set_term(name, None) {
-            termination.set_service(service);
-            self.set_term(name, Some(termination));
         }
     }
 

@@ -1,13 +1,11 @@
 //! What stands at a prepared key.
 
-ghost use Rattle.std.specs.Prelude.{◌≡◌, Some, is_some, IfOk, option_copied};
-ghost use Rattle.gw_table.specs.Stored.{visible, placed, served, emptied, is_vacant};
+ghost use Rattle.std.specs.Prelude.{◌≡◌, Some, is_some, option_copied};
+ghost use Rattle.gw_table.specs.Stored.{visible, placed, is_vacant};
 
-use gw_base::{NoMemory, Service};
 use gw_ctx::Context;
 use gw_term::Termination;
 use std::alloc::AllocError;
-use std::mem;
 
 /// What stands at a prepared key.
 #[derive(Drop)]
@@ -47,17 +45,6 @@ impl<T> Place<T> {
             Place::Empty | Place::Out => None,
         }
     }
-
-    /// Takes the entry that stands here out, if there is one.
-    pub(crate) fn take(&mut self) -> Option<T>
-        ensures before { result ≡ visible (Some self.old) }
-        ensures after { self.new ≡ emptied self.old }
-    {
-        match self {
-            Place::Here(_) => mem::replace(self, Place::Empty).into_entry(),
-            Place::Empty | Place::Out => None,
-        }
-    }
 }
 
 /// The entry that stands in a place, if there is such a place.
@@ -68,29 +55,6 @@ pub(crate) fn entry_at<T>(place: Option<&Place<T>>) -> Option<&T>
         Some(Place::Here(entry)) => Some(entry),
         _ => None,
     }
-}
-
-/// The termination that stands in a place has another service state, if there is one. It is changed in its place.
-pub(crate) fn serve(place: &mut Place<Termination>, service: Service)
-    ensures { place.new ≡ served service place.old }
-{
-    if let Place::Here(entry) = place {
-        entry.set_service(service);
-    }
-}
-
-/// What stands in a place becomes a copy of itself, if there is something. Answers what stood there. The caller knows
-/// that copies are equal.
-pub(crate) fn renew<T: Clone + Drop>(place: &mut Place<T>) -> Result<Option<T>, NoMemory>
-    requires { (a b : T) → T.is_clone a b → b ≡ a }
-    ensures before { IfOk result (λ before. before ≡ visible (Some place.old)) }
-    ensures after { place.new ≡ place.old }
-{
-    let Place::Here(entry) = place else {
-        return Ok(None);
-    };
-    let copy = entry.clone()?;
-    Ok(Some(mem::replace(entry, copy)))
 }
 
 /// Whether there is a place, and nothing that stands in it or went out of it.

@@ -2,12 +2,11 @@
 
 ghost use Rattle.std.specs.Prelude.{◌≡◌, ◌<◌, true, false, [], ◌∷◌, OnOk, vec_len, vec_capacity};
 ghost use Rattle.gw_base.specs.Keys.{same_key};
-ghost use Rattle.gw_table.specs.UndoLog.{key_written, keys_written, logs_properties, without_write, undone};
+ghost use Rattle.gw_table.specs.UndoLog.{key_written, keys_written, without_write, undone};
 ghost use Rattle.gw_table.specs.Stored.{maps_of, is_ready, is_out, AreReady, AreIn, AreAsReady, AreAsOut, AreSweptAmong, KeepReady, NoneIsOut, WereSwept};
 
 use crate::place::Place;
 use crate::rows::Guide;
-use crate::setting::Setting;
 use crate::tables::Tables;
 use gw_base::{CtxNum, Key, NoMemory, TermName};
 use gw_ctx::Context;
@@ -56,9 +55,6 @@ pub enum Write {
     OfTerm(TermName, Option<Termination>),
     /// The context with a number, or none.
     OfCtx(CtxNum, Option<Context>),
-    /// The priority of the context with a number, if there is one, and whether it was an emergency; of the
-    /// rest nothing. The context may be written still, so it counts for no key.
-    OfProperties(CtxNum, u8, bool),
 }
 
 impl Write {
@@ -69,25 +65,13 @@ impl Write {
         match (self, key) {
             (Write::OfTerm(own, _), Key::Term(name)) => own == name,
             (Write::OfCtx(own, _), Key::Ctx(number)) => own.0 == number.0,
-            (Write::OfProperties(_, _, _), Key::Whole) => true,
             _ => false,
-        }
-    }
-
-    /// Whether it logs the properties of the context with this number.
-    pub(crate) fn is_of_properties(&self, number: CtxNum) -> bool
-        ensures { result ≡ logs_properties number self.now }
-    {
-        match self {
-            Write::OfProperties(own, _, _) => number.0 == own.0,
-            Write::OfTerm(_, _) | Write::OfCtx(_, _) => false,
         }
     }
 }
 
 /// What stood at keys of tables before they were written, in the order of the writes: a key for each, and of each key
-/// what its first write found there; and the properties of contexts that were set in their places before that.
-/// Contracts see the list of the writes.
+/// what its first write found there. Contracts see the list of the writes.
 #[derive(Drop)]
 pub struct UndoLog {
     pub(crate) writes: Vec<Write>,
@@ -117,9 +101,6 @@ impl Tables {
             }
             Write::OfCtx(number, before) => {
                 self.exchange_ctx(&mut Guide::none(), number, Place::of(before));
-            }
-            Write::OfProperties(number, priority, emergency) => {
-                self.set(number, Setting::Both(priority, emergency));
             }
         }
     }
@@ -159,7 +140,6 @@ impl Tables {
         match write {
             Write::OfTerm(name, _) => self.sweep_term(Guide::none(), name),
             Write::OfCtx(number, _) => self.sweep_ctx(Guide::none(), *number),
-            Write::OfProperties(_, _, _) => {}
         }
     }
 

@@ -5,20 +5,20 @@ ghost use Rattle.gw_base.specs.declared.key.Key.TheVariants.{Term, Ctx};
 ghost use Rattle.gw_table.specs.Found.{IsFound};
 ghost use Rattle.gw_table.specs.Maps.{term, ctx};
 ghost use Rattle.gw_table.specs.UndoLog.{keys_written};
-ghost use Rattle.gw_table.specs.Stored.{maps_of, put_term_place, put_ctx_place, with_service, without_ctx};
+ghost use Rattle.gw_table.specs.Stored.{maps_of, put_term_place, put_ctx_place};
 
 use crate::in_use::{set_number, set_slot};
 use crate::place::Place;
 use crate::row::{Found, Row};
 use crate::tables::Tables;
 use crate::undo_log::Write;
-use gw_base::{CtxNum, Key, NoMemory, Service, TermName};
+use gw_base::{CtxNum, Key, NoMemory, TermName};
 use gw_ctx::Context;
 use gw_term::Termination;
 
 impl Tables {
-    /// Sets the place of a termination, and answers what was found there: that the name is logged in the list of
-    /// writes, or what the caller logs next. It is one look-up, or two where the name has no place. A refused
+    /// Sets the place of a termination, and answers what was found there, which the caller logs next where the
+    /// name is not logged in the list of writes. It is one look-up, or two where the name has no place. A refused
     /// allocation changes nothing.
     pub(crate) fn write_term(
         &mut self,
@@ -62,45 +62,5 @@ impl Tables {
             .insert(number.0, Row::logged_in(writes, place))?;
         set_number(&mut self.numbers, number, stands);
         Ok(Found::Unlogged(None))
-    }
-
-    /// Takes the context with a number out, if there is one: the context itself where the number is logged in the
-    /// list of writes, and else a copy. Answers also what was found there, as `write_ctx` does. It is one look-up.
-    /// Out of memory nothing has changed.
-    pub(crate) fn take_ctx(
-        &mut self,
-        number: CtxNum,
-        writes: &[Write],
-    ) -> Result<(Option<Context>, Found<Context>), NoMemory>
-        ensures context { IfOk result (λ taken. taken.0 ≡ ctx (maps_of self.old) number) }
-        ensures found { IfOk result (λ taken. IsFound (keys_written writes.now) (Ctx number) (ctx (maps_of self.old) number) taken.1) }
-        ensures after { OnOk result (self.new ≡ without_ctx number self.old (ctx (maps_of self.old) number)) }
-        ensures err { OnErr result (self.new ≡ self.old) }
-    {
-        let Some(row) = self.contexts.get_mut(&number.0) else {
-            return Ok((None, Found::Unlogged(None)));
-        };
-        let taken = row.take(writes, &Key::Ctx(number))?;
-        set_number(&mut self.numbers, number, false);
-        Ok(taken)
-    }
-
-    /// The termination of a name has another service state, if there is one: in its place where the name is logged in
-    /// the list of writes, and else as a copy. Answers what was found there, as `write_term` does. It is one
-    /// look-up. Out of memory nothing has changed.
-    pub(crate) fn set_service(
-        &mut self,
-        name: &TermName,
-        service: Service,
-        writes: &[Write],
-    ) -> Result<Found<Termination>, NoMemory>
-        ensures found { IfOk result (λ found. IsFound (keys_written writes.now) (Term name.now) (term (maps_of self.old) name.now) found) }
-        ensures after { OnOk result (self.new ≡ with_service service name.now self.old (term (maps_of self.old) name.now)) }
-        ensures err { OnErr result (self.new ≡ self.old) }
-    {
-        let Some(row) = self.terms.get_mut(name) else {
-            return Ok(Found::Unlogged(None));
-        };
-        row.serve(service, writes, &Key::Term(*name))
     }
 }

@@ -22,13 +22,12 @@ use Rattle.gw_msg.specs.declared.message.ContextItem.{ContextItem}
 use Rattle.gw_msg.specs.declared.message.Triple.{Triple}
 use Rattle.gw_msg.specs.declared.message.ContextProp.{ContextProp}
 use Rattle.gw_msg.specs.declared.message.ContextProp.TheVariants.{Priority, Emergency, Topology, ContextAudit}
-use Rattle.gw_table.specs.Maps.{Maps, term, ctx, put_ctx, place_of, context_of, members_of}
+use Rattle.gw_table.specs.Maps.{Maps, term, ctx, place_of, context_of, members_of}
 use Rattle.gw_table.specs.Parts.{PartKeys, IsPart}
-use Rattle.gw_table.specs.Settings.{with_setting, put_setting}
-use Rattle.gw_table.specs.declared.setting.Setting.{Setting}
 use Rattle.gw_table.specs.WellFormed.{IsSound, AreWellFormed}
 use Rattle.gw_table.proofs.Growth.{Grows, grows_on}
-use Rattle.gw_table.proofs.Lookups.{term-put_ctx, ctx-put_ctx, same_maps}
+use Rattle.gw_table.proofs.Leaving.{put_ctx-same}
+use Rattle.gw_table.proofs.Lookups.{term-put_ctx, ctx-put_ctx}
 use Rattle.gw_refusal.specs.Places.{same_place}
 use Rattle.gw_cmd.proofs.Parted.{StaysPart}
 use Rattle.gw_tx.specs.Properties.{is_topology, triples_in, triples_of, any_triple, name_of, name_in, names_in, linked_names, is_chosen_or_each, has_no_name, is_left_out, is_with_itself, are_same, is_for_wrong_context, is_misplaced, has_twice, is_too_high, refusal_of_properties, ArePlain, is_absent, is_elsewhere, refusal_of_links, link_of, linked_if, linked_by, with_property, with_property_if, set_property, set_properties}
@@ -322,23 +321,7 @@ pub stays_part_all : (keys : PartKeys) (start : Maps) (n : CtxNum) (ps : List Co
 stays_part_all keys start n [] m s = s
 stays_part_all keys start n (p ∷ ps) m s = stays_part_all keys start n ps (set_property n p m) (stays_part_set n p m keys start s)
 
--- ---- what is set in its place, and what sets nothing
-
--- the context that is there, put where it is
-put_ctx-same : (m : Maps) (n : CtxNum) (o : Option ContextRecord) → o ≡ ctx m n → put_ctx m n o ≡ m
-put_ctx-same m n o e = same_maps (put_ctx m n o) m (λ q. term-put_ctx m n o q) (λ q. ctx-put_ctx m n o q ∙ at q (nat_eq q.0 n.0) refl)
-  where
-    at : (q : CtxNum) (b : Bool) → nat_eq q.0 n.0 ≡ b → cond b o (ctx m q) ≡ ctx m q
-    at q true h = e ∙ ap (ctx m) (sym (same_number q n h))
-    at q false h = refl
-
--- a property that is set in its place
-pub set_in_place : (n : CtxNum) (p : ContextProp) (x : Setting) (m : Maps) → ((c : ContextRecord) → with_setting x c ≡ with_property p c) → put_setting x n m (ctx m n) ≡ set_property n p m
-set_in_place n p x m same = by (ctx m n) refl
-  where
-    by : (o : Option ContextRecord) → o ≡ ctx m n → put_setting x n m o ≡ put_ctx m n (with_property_if p o)
-    by None e = sym (put_ctx-same m n None e)
-    by (Some c) e = ap (λ (d : ContextRecord). put_ctx m n (Some d)) (same c)
+-- ---- what sets nothing
 
 -- a ContextAudit sets nothing
 pub set_audited : (n : CtxNum) (p : ContextProp) (items : List ContextItem) (m : Maps) → p ≡ ContextAudit items → m ≡ set_property n p m

@@ -4,10 +4,9 @@ ghost use Rattle.std.specs.Prelude.{◌≡◌, true, false, OnOk};
 ghost use Rattle.std.specs.List.{list_any};
 ghost use Rattle.gw_base.specs.declared.ids.CtxNum.{CtxNum};
 ghost use Rattle.gw_base.specs.declared.key.Key.TheVariants.{Ctx};
-ghost use Rattle.gw_msg.specs.declared.message.ContextProp.TheVariants.{Topology};
 ghost use Rattle.gw_refusal.specs.declared.at.At.TheVariants.{Unmade};
 ghost use Rattle.gw_table.specs.Parts.{holds};
-ghost use Rattle.gw_tx.specs.Properties.{linked_if, link_of, name_of, linked_by, is_too_high, set_property, set_properties};
+ghost use Rattle.gw_tx.specs.Properties.{linked_if, link_of, name_of, linked_by, is_too_high, with_property, set_property, set_properties};
 ghost use Rattle.gw_tx.specs.Transactions.{set_when_made};
 
 use crate::properties::name_of;
@@ -15,7 +14,7 @@ use gw_base::{CtxNum, Link, NoMemory};
 use gw_cmd::At;
 use gw_ctx::Context;
 use gw_msg::{ContextProp, Triple};
-use gw_table::{Draft, Setting};
+use gw_table::Draft;
 
 fn link_two(context: &mut Context, triple: &Triple) -> Result<(), NoMemory>
     ensures { OnOk result (context.new ≡ linked_if (link_of (name_of triple.now.a) (name_of triple.now.b) triple.now.flow) context.old) }
@@ -40,39 +39,41 @@ fn link_all(context: &mut Context, triples: &[Triple]) -> Result<(), NoMemory>
     Ok(())
 }
 
-/// Links the members of the context, where it is there: it is taken out, linked and set again.
-fn link_in(draft: &mut Draft, number: CtxNum, triples: &[Triple]) -> Result<(), NoMemory>
-    requires key { holds draft.old.keys (Ctx number) ≡ true }
-    ensures maps { OnOk result (draft.new.maps ≡ set_property number (Topology triples.now) draft.old.maps) }
-    ensures keys { draft.new.keys ≡ draft.old.keys }
+/// The context has the property. A ContextAudit sets nothing.
+fn set_in(context: &mut Context, prop: &ContextProp) -> Result<(), NoMemory>
+    requires low { is_too_high prop.now ≡ false }
+    ensures { OnOk result (context.new ≡ with_property prop.now context.old) }
 {
-    let Some(mut context) = draft.take_ctx(number)? else {
-        return Ok(());
-    };
-    link_all(&mut context, triples)?;
-    draft.set_ctx(number, Some(context))
+    match prop {
+        ContextProp::Priority(priority) => context.set_priority(*priority as u8),
+        ContextProp::Emergency => context.set_emergency(),
+        ContextProp::Topology(triples) => link_all(context, triples.as_slice())?,
+        ContextProp::ContextAudit(_) => {}
+    }
+    Ok(())
 }
 
-/// Sets a property of a context, where it is there. A ContextAudit sets nothing.
+/// Sets a property of a context, where it is there: it is taken out, changed and set again, unless nothing is to be
+/// set.
 fn set_property(draft: &mut Draft, number: CtxNum, prop: &ContextProp) -> Result<(), NoMemory>
     requires key { holds draft.old.keys (Ctx number) ≡ true }
     requires low { is_too_high prop.now ≡ false }
     ensures maps { OnOk result (draft.new.maps ≡ set_property number prop.now draft.old.maps) }
     ensures keys { draft.new.keys ≡ draft.old.keys }
 {
-    match prop {
-        ContextProp::Priority(priority) => {
-            draft.set_property(number, Setting::Priority(*priority as u8))
-        }
-        ContextProp::Emergency => draft.set_property(number, Setting::Emergency),
-        ContextProp::Topology(triples) => link_in(draft, number, triples.as_slice()),
-        ContextProp::ContextAudit(_) => Ok(()),
+    if let ContextProp::ContextAudit(_) = prop {
+        return Ok(());
     }
+    let Some(mut context) = draft.take_ctx(number)? else {
+        return Ok(());
+    };
+    set_in(&mut context, prop)?;
+    draft.set_ctx(number, Some(context))
 }
 
 /// Sets the properties of a context, in the order written, where it is there. The caller knows that its number is one
-/// of the draft's keys, and that each priority is one that there is. The work is a look-up for each that is set, and
-/// for a Topology one pass of the links for each triple.
+/// of the draft's keys, and that each priority is one that there is. In whole tables the first that is set copies the
+/// context; a Topology takes one pass of the links for each triple.
 ///
 /// # Errors
 ///

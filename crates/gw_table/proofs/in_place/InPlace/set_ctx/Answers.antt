@@ -12,23 +12,23 @@ use Rattle.gw_table.proofs.in_place.InPlace.set_ctx.Goals as goal
 
 -- ---- where it was written before
 
-pub invariant_of-self-in_default : goal.invariant_of-self-in_default
-invariant_of-self-in_default c =
+pub invariant_of-self-in-Logged : goal.invariant_of-self-in-Logged
+invariant_of-self-in-Logged c =
     let old : Stored = c.self.inside.tables in
     same_in_place c.self.inside.before.value (put_ctx_place old c.args.number (placed c.args.entry)) c.write_ctx.new.self c.self.inside.writes.items c.make_room.new.writes.items
     (c.in_ok-found.ensures.ok ∙ ap (λ p. put_ctx_place old c.args.number p) c.of.ensures) c.in_ok-make_room.ensures.same
     (wrote_ctx_again c.self.inside.before.value old c.self.inside.writes.items c.self.invariant c.args.number (placed c.args.entry) (placed_here c.args.entry)
-    (logged_before c.self.inside.writes.items c.deref.result.now (Ctx c.args.number) (ctx (maps_of old) c.args.number) c.in_ok-found.found (c.deref.ensures.value ∙ c.in_ok-make_room.ensures.same) c.in_default.is c.in_ok-found.ensures.found))
+    (logged_before c.self.inside.writes.items c.deref.result.now (Ctx c.args.number) (ctx (maps_of old) c.args.number) c.in_ok-found.found _ (c.deref.ensures.value ∙ c.in_ok-make_room.ensures.same) c.in-Logged.is c.in_ok-found.ensures.found))
 
-pub returns-in_default-clause-maps : goal.returns-in_default-clause-maps
-returns-in_default-clause-maps c =
+pub returns-in-Logged-clause-maps : goal.returns-in-Logged-clause-maps
+returns-in-Logged-clause-maps c =
     ap (λ s. maps_of s) (c.in_ok-found.ensures.ok ∙ ap (λ p. put_ctx_place c.self.inside.tables c.args.number p) c.of.ensures) ∙ maps-put_ctx_place c.self.inside.tables c.args.number (placed c.args.entry)
     ∙ ap (put_ctx (maps_of c.self.inside.tables) c.args.number) (shown_placed c.args.entry) ∙ ap (λ (p : Parted). put_ctx p.maps c.args.number c.args.entry) c.self.view_is
 
 -- ---- where it was not
 
-pub invariant_of-self-2 : goal.invariant_of-self-2
-invariant_of-self-2 c =
+pub invariant_of-self-in-Unlogged : goal.invariant_of-self-in-Unlogged
+invariant_of-self-in-Unlogged c =
     let old : Stored = c.self.inside.tables in
     same_in_place c.self.inside.before.value (put_ctx_place old c.args.number (placed c.args.entry)) c.write_ctx.new.self (c.self.inside.writes.items ++ OfCtx c.args.number c.in-Unlogged.before ∷ []) c.push_reserved.new.self.items
     (c.in_ok-found.ensures.ok ∙ ap (λ p. put_ctx_place old c.args.number p) c.of.ensures)

@@ -1,11 +1,9 @@
 use Rattle.std.proofs.Common.{ap, sym, ◌∙◌}
 use Rattle.gw_table.specs.declared.undo_log.Write.{Write}
-use Rattle.gw_table.specs.declared.setting.Setting.TheVariants.{Both}
-use Rattle.gw_table.specs.Maps.{ctx, put_term, put_ctx}
+use Rattle.gw_table.specs.Maps.{put_term, put_ctx}
 use Rattle.gw_table.specs.UndoLog.{key_written, without_write}
 use Rattle.gw_table.specs.Stored.{Stored, placed, maps_of, is_ready, is_out, put_term_place, put_ctx_place}
 use Rattle.gw_table.proofs.Places.{maps-put_term_place, maps-put_ctx_place, shown_placed, placed_here, ready-put_term, ready-put_ctx, out-put_term, out-put_ctx}
-use Rattle.gw_table.proofs.Settings.{maps-set_place, ready-set_place, out-set_place}
 use Rattle.gw_table.proofs.tables.Tables.take_back.Goals as goal
 
 pub returns-in-OfTerm-clause-maps : goal.returns-in-OfTerm-clause-maps
@@ -43,18 +41,3 @@ returns-in-OfCtx-clause-ready c = λ k.
     let s : Stored = c.args.self.now in
     ap (λ (x : Stored). is_ready x k) c.exchange_ctx.ensures.after
     ∙ ready-put_ctx s c.in-OfCtx.number c.of-in-OfCtx.result k (ap (λ (w : Write). is_ready s (key_written w)) (sym c.in-OfCtx.is) ∙ c.requires.ready)
-
-pub returns-in-OfProperties-clause-maps : goal.returns-in-OfProperties-clause-maps
-returns-in-OfProperties-clause-maps c =
-    let s : Stored = c.args.self.now in
-    let n = c.in-OfProperties.number in
-    let both = Both c.in-OfProperties.priority c.in-OfProperties.emergency in
-    ap (λ x. maps_of x) c.set.ensures ∙ maps-set_place both n s (ctx (maps_of s) n) ∙ ap (λ (w : Write). without_write w (maps_of s)) (sym c.in-OfProperties.is)
-
-pub returns-in-OfProperties-clause-out : goal.returns-in-OfProperties-clause-out
-returns-in-OfProperties-clause-out c = λ k.
-    ap (λ (x : Stored). is_out x k) c.set.ensures ∙ out-set_place (Both c.in-OfProperties.priority c.in-OfProperties.emergency) c.in-OfProperties.number c.args.self.now k
-
-pub returns-in-OfProperties-clause-ready : goal.returns-in-OfProperties-clause-ready
-returns-in-OfProperties-clause-ready c = λ k.
-    ap (λ (x : Stored). is_ready x k) c.set.ensures ∙ ready-set_place (Both c.in-OfProperties.priority c.in-OfProperties.emergency) c.in-OfProperties.number c.args.self.now k
