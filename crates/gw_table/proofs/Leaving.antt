@@ -1,5 +1,5 @@
 -- What is written twice, and what is written as it is.
-use Rattle.std.proofs.Common.{nat_eq, ◌≡◌, ℕ, Bool, true, false, cond, List, bytes_eq, Option, None, Some, refl, sym, ap, ◌∙◌}
+use Rattle.std.proofs.Common.{nat_eq, ◌≡◌, ℕ, Bool, true, false, cond, List, bytes_eq, Option, None, refl, sym, ap, ◌∙◌}
 use Rattle.gw_base.specs.declared.ids.CtxNum.{CtxNum}
 use Rattle.gw_base.proofs.NameTests.{same_name, same_number}
 use Rattle.gw_ctx.specs.Contexts.{ContextRecord}

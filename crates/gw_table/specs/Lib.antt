@@ -15,7 +15,6 @@ pub mod Parts
 pub mod Reserved
 pub mod RowLending
 pub mod Rows
-pub mod Provided
 pub mod Stored
 pub mod TableTexts
 pub mod Unused

@@ -1,5 +1,4 @@
 use Rattle.std.proofs.Common.{arith}
-use Rattle.std.proofs.lemmas.Grind.{common_steps}
 use Rattle.gw_table.proofs.Leaving.{set_again}
 use Rattle.gw_table.proofs.draft.Draft.leave.Goals as goal
 
