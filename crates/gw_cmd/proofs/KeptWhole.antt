@@ -1,12 +1,10 @@
 -- Lawful changes keep whole tables well-formed.
-use Rattle.std.proofs.Common.{nat_eq, ◌≡◌, ℕ, ◌<◌, Bool, true, false, cond, List, length, Option, None, Some, is_some, refl, sym, ap, subst, ◌∙◌, arith}
-use Rattle.std.specs.Prelude.{if◌then◌else◌}
+use Rattle.std.proofs.Common.{nat_eq, ◌≡◌, ℕ, ◌<◌, Bool, true, false, cond, List, length, Option, None, Some, refl, sym, ap, subst, ◌∙◌, arith}
 use Rattle.gw_base.specs.declared.ids.CtxNum.{CtxNum}
 use Rattle.gw_base.specs.declared.command_words.Rules.{Rules}
 use Rattle.gw_base.specs.declared.command_words.Verb.{Verb}
 use Rattle.gw_term.specs.declared.record.Termination.{Termination}
 use Rattle.gw_term.specs.Limits.{HasFew}
-use Rattle.gw_term.specs.Record.{reset}
 use Rattle.gw_table.specs.Maps.{Maps, term, ctx, put_term, place_of, members_of}
 use Rattle.gw_table.specs.WellFormed.{AreWellFormed, Fits}
 use Rattle.gw_ctx.specs.Contexts.{ContextRecord, left}
@@ -30,25 +28,13 @@ use Rattle.gw_base.proofs.NamesInLists.{itself}
 -- a termination that is there fits its name, and so does one that is made in a slot
 known_good : (limit : ℕ) {makes : ℕ → Type 0} (t : List ℕ) (r : Termination) (m : Maps) → AreWellFormed limit m → IsKnown makes t r m → Fits t r.slot × HasFew r
 known_good limit t r m w (Found e) = (w.named t r e, w.modest t r e)
-known_good limit t r m w (Made s i j e a) =
-    subst (λ (x : Termination). Fits t x.slot × HasFew x) (sym j) (i, record { properties = omega arith; streams = record { first = tt; second = tt; third = tt; fourth = tt } })
+known_good limit t r m w (Made s i j e a) = grind arith
 
 rewritten_good : (t : List ℕ) (old new : Termination) → Fits t old.slot × HasFew old → IsRewritten old new → IsGood t (Some new)
-rewritten_good t old new g i r e =
-    let same : new ≡ r = cc in
-    (subst (λ (x : Termination). Fits t x.slot) same (subst (Fits t) (sym i.slot) g.0), subst HasFew same (i.few g.1))
+rewritten_good t old new g i r e = grind arith
 
 remains_good : (t : List ℕ) (old : Termination) (o : Option Termination) → Fits t old.slot × HasFew old → o ≡ what_remains old → IsGood t o
-remains_good t old o g e r is = by old.slot refl (sym e ∙ is)
-  where
-    by : (s : Option ℕ) → old.slot ≡ s → what_remains old ≡ Some r → Fits t r.slot × HasFew r
-    by None a h =
-        let left : Some (reset old) ≡ Some r = ap (λ (s : Option ℕ). if is_some s then None else Some (reset old)) (sym a) ∙ h in
-        let same : reset old ≡ r = cc in
-        (subst (λ (x : Termination). Fits t x.slot) same g.0, subst HasFew same (record { properties = omega arith; streams = record { first = tt; second = tt; third = tt; fourth = tt } }))
-    by (Some s) a h =
-        let none : None ≡ Some r = ap (λ (s : Option ℕ). if is_some s then None else Some (reset old)) (sym a) ∙ h in
-        absurd cc
+remains_good t old o g e r is = grind arith
 
 gone_good : (t : List ℕ) → IsGood t None
 gone_good t r e = absurd cc

@@ -1,4 +1,5 @@
 -- Terminations that join and leave keep whole tables well-formed.
+use Rattle.std.proofs.lemmas.Grind.{common_steps}
 use Rattle.std.proofs.Common.{nat_eq, ◌≡◌, ℕ, ◌≤◌, ◌<◌, Bool, true, false, cond, List, [], ◌∷◌, ◌++◌, length, Option, None, Some, bytes_eq, refl, sym, ap, subst, ◌∙◌, arith, length-append}
 use Rattle.std.specs.Prelude.{◌≢◌}
 use Rattle.gw_base.specs.declared.ids.CtxNum.{CtxNum}
@@ -8,14 +9,14 @@ use Rattle.gw_base.proofs.NamesInLists.{last_in_pushed, stays_in_pushed, stays_w
 use Rattle.gw_term.specs.declared.record.Termination.{Termination}
 use Rattle.gw_ctx.specs.Contexts.{ContextRecord, joined, left}
 use Rattle.gw_ctx.specs.Fitting.{IsFit}
-use Rattle.gw_ctx.proofs.Fits.{fit_new, fit_joined, fit_left}
+use Rattle.gw_ctx.proofs.Fits.{fit_joined, fit_left}
 use Rattle.gw_table.specs.Maps.{Maps, term, ctx, put_term, place_of, context_of, members_of}
 use Rattle.gw_table.specs.Parts.{Every}
 use Rattle.gw_table.specs.WellFormed.{IsSound, AreWellFormed, Fits}
 use Rattle.gw_term.specs.Limits.{HasFew}
 use Rattle.gw_table.proofs.Lookups.{term-put_term, ctx-put_term}
 use Rattle.gw_table.proofs.PartLookups.{sound_whole}
-use Rattle.gw_table.specs.Members.{with_member, without_member, unless_none, unless_empty}
+use Rattle.gw_table.specs.Members.{with_member, without_member, unless_empty}
 use Rattle.gw_cmd.proofs.Sound.{members-unless_empty, ctx-with_member, ctx-without_member, term-with_member, term-without_member, free_at_none, sound_joined, sound_departed}
 
 -- a record fits its name, and has few properties
@@ -28,22 +29,13 @@ good_after limit t q o m w good true e r is = let g = good r is in (subst (λ (k
 good_after limit t q o m w good false e r is = (w.named q r is, w.modest q r is)
 
 pushed_some : (t : List ℕ) (l : List (List ℕ)) → l ++ t ∷ [] ≢ []
-pushed_some t [] e = cc
-pushed_some t (x ∷ xs) e = cc
+pushed_some t l e = grind (arith, common_steps)
 
 unless_some : (c x : ContextRecord) → unless_empty c ≡ Some x → x.members ≢ []
-unless_some c x = by c.members c refl
-  where
-    by : (l : List (List ℕ)) (c : ContextRecord) → l ≡ c.members → unless_none l c ≡ Some x → x.members ≢ []
-    by [] c a e f = cc
-    by (y ∷ ys) c a e f = let clash : y ∷ ys ≡ [] = a ∙ ap (λ (o : Option ContextRecord). members_of o) e ∙ f in cc
+unless_some c x = grind arith
 
 fit_unless : (c : ContextRecord) → IsFit c → IsFit (context_of (unless_empty c))
-fit_unless c = by c.members c
-  where
-    by : (l : List (List ℕ)) (c : ContextRecord) → IsFit c → IsFit (context_of (unless_none l c))
-    by [] c f = fit_new
-    by (x ∷ xs) c f = f
+fit_unless c = grind arith
 
 pub whole_joined : (limit : ℕ) (n : CtxNum) (t : List ℕ) (o : Option Termination) (m : Maps) → AreWellFormed limit m → place_of (term m t) ≡ None → place_of o ≡ Some n → IsGood t o → length (members_of (ctx m n)) < limit → AreWellFormed limit (put_term (with_member n t m) t o)
 whole_joined limit n t o m w nowhere there good room = record {

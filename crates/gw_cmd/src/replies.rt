@@ -66,6 +66,7 @@ pub(crate) fn written(
 }
 
 /// What a command gave whose targets' replies are written.
+#[tactic(auto, using(crate::proofs::Seen::failed_first))]
 pub(crate) fn outcome_of(at: At, done: Seen) -> CmdWritten
     ensures { (writer : ReplyWriter CommandReply) (replies : List CommandReply) → done ≡ seen writer replies → result ≡ outcome_behind writer (outcome_of at replies) }
 {

@@ -1,14 +1,9 @@
-use Rattle.std.proofs.Common.{Bool, List, [], ◌∷◌, ℕ, Option, ap, sym, subst, ◌∙◌}
+use Rattle.std.proofs.Common.{Bool, [], ◌∷◌, ap, sym, ◌∙◌}
 use Rattle.std.specs.Prelude.{if◌then◌else◌}
-use Rattle.gw_base.specs.declared.command_words.Verb.{Verb}
-use Rattle.gw_base.specs.declared.ids.CtxNum.{CtxNum}
-use Rattle.gw_base.specs.NameLists.{is_in}
 use Rattle.gw_reply.specs.declared.writer.ReplyWriter.TheVariants.{TooLong}
 use Rattle.gw_reply.specs.declared.reply.CommandReply.{CommandReply}
 use Rattle.gw_table.specs.declared.attempts.Attempts.{Attempts}
 use Rattle.gw_table.specs.Maps.{Outcome}
-use Rattle.gw_table.specs.Parts.{HoldsPlace}
-use Rattle.gw_refusal.specs.Requested.{is_move}
 use Rattle.gw_refusal.specs.Targets.{targets}
 use Rattle.gw_cmd.specs.declared.outcome.CmdOutcome.{CmdOutcome}
 use Rattle.gw_cmd.specs.Commands.{reply, on_targets, first_error, outcome_of}
@@ -17,15 +12,6 @@ use Rattle.gw_cmd.specs.Written.{outcome_behind, seen}
 use Rattle.gw_cmd.proofs.OneByOne.{all_in}
 use Rattle.gw_cmd.proofs.Tasks.{is_task}
 use Rattle.gw_cmd.proofs.execute.on_names.Goals as goal
-
-pub on_targets-requires-clause-term_keys : goal.on_targets-requires-clause-term_keys
-on_targets-requires-clause-term_keys c = λ t i. c.requires.ready.targets t (ap (λ (names : List (List ℕ)). is_in t names) (sym c.requires.named) ∙ i)
-
-pub on_targets-requires-clause-ctx_key : goal.on_targets-requires-clause-ctx_key
-on_targets-requires-clause-ctx_key c = subst (λ (p : Option CtxNum). HoldsPlace c.args.draft.now.keys p) (is_task c.args.execution.at c.args.prepared.now.command.now c.args.execution.task c.requires.allowed).place c.requires.ready.place
-
-pub on_targets-requires-clause-stays : goal.on_targets-requires-clause-stays
-on_targets-requires-clause-stays c = ap (λ (v : Verb). is_move v) (sym (is_task c.args.execution.at c.args.prepared.now.command.now c.args.execution.task c.requires.allowed).does.verb) ∙ c.requires.ready.stays c.requires.many
 
 pub returns-then-has_one_reply-clause-answer : goal.returns-then-has_one_reply-clause-answer
 returns-then-has_one_reply-clause-answer c =
