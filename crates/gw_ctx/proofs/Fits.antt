@@ -1,5 +1,6 @@
 -- What contexts do keeps their properties fit.
-use Rattle.std.proofs.Common.{◌≡◌, ℕ, ◌≤◌, Bool, true, false, List, [], ◌∷◌, ◌++◌, get_or, filter, All, bytes_eq, refl, sym, subst, arith}
+use Rattle.std.proofs.lemmas.Grind.{common_steps}
+use Rattle.std.proofs.Common.{◌≡◌, ℕ, ◌≤◌, Bool, true, false, List, [], ◌∷◌, ◌++◌, get_or, filter, All, bytes_eq, sym, subst, arith}
 use Rattle.std.proofs.lemmas.List.{append-nil}
 use Rattle.std.specs.Prelude.{◌≢◌, ◌||◌, not, AllPairs}
 use Rattle.std.proofs.lemmas.List.Elements.{All-filter, All-push, filter_passes}
@@ -9,7 +10,7 @@ use Rattle.gw_base.specs.NameLists.{is_in}
 use Rattle.gw_base.specs.declared.context_words.Flow.{Flow}
 use Rattle.gw_base.specs.declared.context_words.Flow.TheVariants.{Bothway, Isolate, Oneway}
 use Rattle.gw_base.specs.declared.context_words.Link.{Link}
-use Rattle.gw_base.proofs.NamesInLists.{other_way, stays_in_pushed, stays_without}
+use Rattle.gw_base.proofs.NamesInLists.{other_way, stays_without}
 use Rattle.gw_ctx.specs.Contexts.{ContextRecord, new_context, joined, left, prioritized, with_emergency, linked, is_apart_from, is_other_pair, links_beside, kept_link}
 use Rattle.gw_ctx.specs.Fitting.{priority_max, Joins, IsFit}
 
@@ -17,17 +18,11 @@ pub fit_new : IsFit new_context
 fit_new = record { priority = omega arith; joins = λ k d h. absurd (omega arith); pairs = λ i j d h l. absurd (omega arith) }
 
 pub fit_joined : (t : List ℕ) (c : ContextRecord) → IsFit c → IsFit (joined t c)
-fit_joined t c f = record {
-  priority = f.priority;
-  joins = λ k d h. let j : Joins c.members (get_or c.links k d) = f.joins k d h in record { first = stays_in_pushed _ t c.members j.first; second = stays_in_pushed _ t c.members j.second; apart = j.apart; not_bothway = j.not_bothway };
-  pairs = f.pairs;
-}
+fit_joined t c f = grind (arith, common_steps)
 
 -- the name is neither of the two
 neither_of : (a b : Bool) → not (a || b) ≡ true → (a ≡ false) × (b ≡ false)
-neither_of true b h = absurd cc
-neither_of false true h = absurd cc
-neither_of false false h = (refl, refl)
+neither_of a b h = grind arith
 
 pub fit_left : (t : List ℕ) (c : ContextRecord) → IsFit c → IsFit (left t c)
 fit_left t c f = record {

@@ -1,8 +1,7 @@
 -- Lists that are filtered, or made of others, where tests and functions agree at each element.
-use Rattle.std.proofs.Common.{◌≡◌, ℕ, ◌<◌, Bool, true, false, not, cond, List, [], ◌∷◌, length, get_or, map, filter, All, None, Some, refl, ap, ◌∙◌, arith, nat_lt, ◌≤◌}
-use Rattle.std.specs.List.{position, position_or_len}
+use Rattle.std.proofs.Common.{◌≡◌, ℕ, ◌<◌, Bool, true, false, cond, List, [], ◌∷◌, length, map, filter, All, None, Some, refl, ap, ◌∙◌, arith}
+use Rattle.std.specs.List.{position}
 use Rattle.std.specs.List.Retain.{RetainsInTurn}
-use Rattle.std.proofs.lemmas.Bool.{ltb-true, ltb-false, not-true}
 use Rattle.std.proofs.lemmas.List.Sums.{prefix_len_passes}
 use Rattle.std.proofs.lemmas.List.Elements.{All-head, All-tail}
 
@@ -40,25 +39,11 @@ filter_through {X} {Y} p q f (x ∷ xs) h =
     ap (λ (t : Bool). cond t (f x ∷ made) made) (All-head (λ y. p (f y) ≡ q y) x xs h)
     ∙ filter_step f x made (filter q xs) (q x) (filter_through p q f xs (All-tail (λ y. p (f y) ≡ q y) x xs h))
 
--- what a first place that passes is, or that none is
-placed : (b : Bool) (n k : ℕ) → cond b (Some n) None ≡ Some k → (b ≡ true) × (n ≡ k)
-placed true n k e = (refl, cc)
-placed false n k e = absurd cc
-
-unplaced : (b : Bool) (n : ℕ) → cond b (Some n) None ≡ None → b ≡ false
-unplaced true n e = absurd cc
-unplaced false n e = refl
-
 pub place_within : {X : Type 0} (p : X → Bool) (xs : List X) (k : ℕ) → position p xs ≡ Some k → k < length xs
-place_within p xs k e =
-    let found = placed (nat_lt (position_or_len p xs) (length xs)) (position_or_len p xs) k e in
-    let below : position_or_len p xs < length xs = ltb-true (position_or_len p xs) (length xs) found.0 in
-    omega (arith, below, found.1)
+place_within p xs k e = grind arith
 
 pub none_passes : {X : Type 0} (p : X → Bool) (xs : List X) → position p xs ≡ None → All (λ x. p x ≡ false) xs
-none_passes p xs e k d h =
-    let past : length xs ≤ position_or_len p xs = ltb-false (position_or_len p xs) (length xs) (unplaced (nat_lt (position_or_len p xs) (length xs)) (position_or_len p xs) e) in
-    not-true (p (get_or xs k d)) (prefix_len_passes (λ x. not (p x)) xs k d (omega (arith, past, h)))
+none_passes p xs e k d h = grind (arith, prefix_len_passes)
 
 -- what is left where each call answers by a function of the element, and changes it by another
 pub retained : {S X : Type 0} (R : S → X → Bool → S → X → Type 0) (I : S → Type 0) (test : X → Bool) (change : X → X)

@@ -1,7 +1,7 @@
 -- Places of names, once one of them is gone and the last one has taken its place.
-use Rattle.std.proofs.Common.{◌≡◌, ℕ, ◌+◌, ◌-◌, ◌<◌, Bool, false, cond, ◌⊎◌, inl, inr, List, length, get_or, bytes_eq, arith, ap, sym, ◌∙◌}
+use Rattle.std.proofs.Common.{◌≡◌, ℕ, ◌+◌, ◌-◌, ◌<◌, false, ◌⊎◌, inl, inr, List, length, get_or, bytes_eq, arith, ap, sym, ◌∙◌}
 use Rattle.std.specs.Prelude.{AllPairs}
-use Rattle.std.proofs.lemmas.Bool.{cases_eq, eq-eqb, ne_eqb}
+use Rattle.std.proofs.lemmas.Bool.{cases_eq}
 use Rattle.gw_base.proofs.NamesInLists.{other_way}
 use Rattle.gw_ctx.specs.Places.{moved}
 
@@ -12,10 +12,7 @@ pub record IsSwapped {X : Type 0} (old new : List X) (g : ℕ) : Type 0 where
   pub others : (k : ℕ) (d : X) → (k ≡ g → ⊥) → k + 1 < length old → get_or new k d ≡ get_or old k d
 
 moved_cases : (last g x : ℕ) → ((x ≡ last) × (moved last g x ≡ g)) ⊎ ((x ≡ last → ⊥) × (moved last g x ≡ x))
-moved_cases last g x = elim (cases_eq x last) [
-  | inl e ↦ inl (e, ap (λ (b : Bool). cond b g x) (eq-eqb x last e))
-  | inr n ↦ inr (n, ap (λ (b : Bool). cond b g x) (ne_eqb x last n))
-]
+moved_cases last g x = grind arith
 
 module _ {X : Type 0} (old new : List X) (g : ℕ) (s : IsSwapped old new g) (inside : g < length old) where
   pub moved_within : (x : ℕ) → x < length old → (x ≡ g → ⊥) → moved (length new) g x < length new
@@ -36,21 +33,4 @@ module _ {X : Type 0} (old new : List X) (g : ℕ) (s : IsSwapped old new g) (in
 
 -- names that stood apart do so still
 pub apart_swapped : (old new : List (List ℕ)) (g : ℕ) → IsSwapped old new g → AllPairs (λ s t. bytes_eq s t ≡ false) old → AllPairs (λ s t. bytes_eq s t ≡ false) new
-apart_swapped old new g s h i j d l m = elim (cases_eq i g) [
-  | inl e ↦
-      ap (λ (k : ℕ). bytes_eq (get_or new k d) (get_or new j d)) e
-      ∙ ap (λ (n : List ℕ). bytes_eq n (get_or new j d)) (s.taken d (omega (arith, s.fewer, e, l, m)))
-      ∙ ap (λ (n : List ℕ). bytes_eq (get_or old (length old - 1) d) n) (s.others j d (λ f. omega (arith, e, f, l)) (omega (arith, s.fewer, m)))
-      ∙ other_way (get_or old j d) (get_or old (length old - 1) d) (h j (length old - 1) d (omega (arith, s.fewer, m)) (omega (arith, s.fewer)))
-  | inr n ↦ elim (cases_eq j g) [
-    | inl e ↦
-        ap (λ (k : ℕ). bytes_eq (get_or new i d) (get_or new k d)) e
-        ∙ ap (λ (t : List ℕ). bytes_eq (get_or new i d) t) (s.taken d (omega (arith, s.fewer, e, m)))
-        ∙ ap (λ (t : List ℕ). bytes_eq t (get_or old (length old - 1) d)) (s.others i d n (omega (arith, s.fewer, l, m)))
-        ∙ h i (length old - 1) d (omega (arith, s.fewer, l, m)) (omega (arith, s.fewer))
-    | inr f ↦
-        ap (λ (t : List ℕ). bytes_eq t (get_or new j d)) (s.others i d n (omega (arith, s.fewer, l, m)))
-        ∙ ap (λ (t : List ℕ). bytes_eq (get_or old i d) t) (s.others j d f (omega (arith, s.fewer, m)))
-        ∙ h i j d l (omega (arith, s.fewer, m))
-  ]
-]
+apart_swapped old new g s h i j d l m = grind (arith, other_way)

@@ -1,15 +1,14 @@
 -- Links that are kept by the places of their names: what a change of names or places leaves.
-use Rattle.std.proofs.Common.{◌≡◌, ℕ, ◌<◌, nat_eq, Bool, true, false, not, ◌&&◌, ◌||◌, cond, inl, inr, List, [], ◌∷◌, ◌++◌, length, get_or, map, filter, bytes_eq, All, None, Some, arith, ap, refl, sym, subst, ◌∙◌, length-append}
+use Rattle.std.proofs.Common.{◌≡◌, ℕ, ◌<◌, nat_eq, Bool, true, false, not, ◌&&◌, ◌||◌, cond, List, [], ◌∷◌, ◌++◌, length, get_or, map, filter, bytes_eq, All, None, Some, arith, ap, refl, sym, subst, ◌∙◌, length-append}
 use Rattle.std.specs.Prelude.{AllPairs}
 use Rattle.std.specs.List.{position}
-use Rattle.std.proofs.lemmas.Bool.{cases_order, eq-eqb, ne_eqb, eqb-false, not-true, or_parts, both_ways, false_from_ne_true}
+use Rattle.std.proofs.lemmas.Bool.{both_ways, false_from_ne_true}
 use Rattle.std.proofs.lemmas.List.{get_or_append_left, map-append}
-use Rattle.std.proofs.lemmas.List.Elements.{All-filter, All-push, All-append, All-weaker, All-map, filter_passes}
+use Rattle.std.proofs.lemmas.List.Elements.{All-filter, All-append, All-weaker, All-map, filter_passes}
 use Rattle.std.proofs.lemmas.List.Folds.{list_any_at, list_any_none}
 use Rattle.std.proofs.lemmas.List.Quantifiers.{all_pairs_push, position-Some}
 use Rattle.gw_base.specs.NameLists.{is_in}
 use Rattle.gw_base.specs.declared.context_words.Flow.{Flow}
-use Rattle.gw_base.specs.declared.context_words.Flow.TheVariants.{Bothway, Isolate, Oneway}
 use Rattle.gw_base.specs.declared.context_words.Link.{Link}
 use Rattle.gw_base.proofs.NamesInLists.{other_way, itself}
 use Rattle.gw_base.proofs.NameTests.{same_name}
@@ -21,13 +20,7 @@ use Rattle.gw_ctx.proofs.Numbers.{IsSwapped, moved_within, moved_there, apart_sw
 
 -- a name stands where the place of it is, and nowhere else
 apart_at : (names : List (List ℕ)) (i k : ℕ) → AllPairs (λ s t. bytes_eq s t ≡ false) names → i < length names → k < length names → bytes_eq (get_or names i []) (get_or names k []) ≡ nat_eq k i
-apart_at names i k h l m = elim (cases_order k i) [
-  | inl e ↦ ap (λ (n : ℕ). bytes_eq (get_or names i []) (get_or names n [])) e ∙ itself (get_or names i []) ∙ sym (eq-eqb k i e)
-  | inr o ↦ elim o [
-    | inl less ↦ other_way (get_or names k []) (get_or names i []) (h k i [] less l) ∙ sym (ne_eqb k i (λ e. omega (arith, e, less)))
-    | inr more ↦ h i k [] more m ∙ sym (ne_eqb k i (λ e. omega (arith, e, more)))
-  ]
-]
+apart_at names i k h l m = grind (arith, itself, other_way)
 
 pub name_at : (names : List (List ℕ)) (name : List ℕ) (i k : ℕ) → AllPairs (λ s t. bytes_eq s t ≡ false) names → i < length names → get_or names i [] ≡ name → k < length names → bytes_eq name (get_or names k []) ≡ nat_eq k i
 name_at names name i k h l e m = ap (λ (n : List ℕ). bytes_eq n (get_or names k [])) (sym e) ∙ apart_at names i k h l m
@@ -45,15 +38,11 @@ name_new names name e = ap (λ (b : Bool). cond b names (names ++ name ∷ [])) 
 
 -- neither of the two stands there
 pub off_parts : (g : ℕ) (p : Pair) → is_off g p ≡ true → (p.a ≡ g → ⊥) × (p.b ≡ g → ⊥)
-off_parts g p e =
-    let n = or_parts (nat_eq p.a g) (nat_eq p.b g) (not-true (nat_eq p.a g || nat_eq p.b g) e) in
-    (eqb-false p.a g n.0, eqb-false p.b g n.1)
+off_parts g p e = grind arith
 
 -- two tests of two parts
 neither_is : (a b : Bool) → a ≡ false → b ≡ false → not (a || b) ≡ true
-neither_is false false e f = refl
-neither_is true b e f = absurd cc
-neither_is false true e f = absurd cc
+neither_is a b e f = grind arith
 
 same_neither : (a b c d : Bool) → a ≡ c → b ≡ d → not (a || b) ≡ not (c || d)
 same_neither a b c d e f = ap (λ (t : Bool). not (t || b)) e ∙ ap (λ (t : Bool). not (c || t)) f
@@ -150,25 +139,17 @@ module _ (names : List (List ℕ)) (pairs : List Pair) (kept : AreKept names pai
 
 -- a name more leaves the others where they are
 grown_at : (name : List ℕ) (names : List (List ℕ)) (k : ℕ) → k < length names → (k < length (with_name name names)) × (get_or (with_name name names) k [] ≡ get_or names k [])
-grown_at name names k h = by (is_in name names)
-  where
-    by : (b : Bool) → (k < length (cond b names (names ++ name ∷ []))) × (get_or (cond b names (names ++ name ∷ [])) k [] ≡ get_or names k [])
-    by true = (h, refl)
-    by false = (omega (arith, h, length-append names (name ∷ [])), get_or_append_left names (name ∷ []) [] k h)
+grown_at name names k h = grind (arith, length-append, get_or_append_left)
 
 -- one more link, unless it is both ways
 within_kept : (n : ℕ) (new : Pair) (w : Flow) → IsWithin n new → All (IsWithin n) (kept_pair new w)
-within_kept n new Bothway h = λ k d l. absurd (omega arith)
-within_kept n new Isolate h = All-push (IsWithin n) [] new (λ k d l. absurd (omega arith)) h
-within_kept n new Oneway h = All-push (IsWithin n) [] new (λ k d l. absurd (omega arith)) h
+within_kept n new w h = grind arith
 
 kept_more : (names : List (List ℕ)) (pairs : List Pair) (new : Pair) (w : Flow) → AreKept names pairs → IsWithin (length names) new → AreKept names (pairs ++ kept_pair new w)
 kept_more names pairs new w kept in' = record { apart = kept.apart; within = All-append (IsWithin (length names)) pairs (kept_pair new w) kept.within (within_kept (length names) new w in') }
 
 link_kept : (names : List (List ℕ)) (new : Pair) (link : Link) (w : Flow) → link_at names new ≡ link → links_at names (kept_pair new w) ≡ kept_link link w
-link_kept names new link Bothway e = refl
-link_kept names new link Isolate e = ap (λ (l : Link). l ∷ []) e
-link_kept names new link Oneway e = ap (λ (l : Link). l ∷ []) e
+link_kept names new link w e = grind arith
 
 -- a link more: its names are put last where they are not there, and it takes the place of the one of its pair, unless it is both ways
 module _ (names : List (List ℕ)) (pairs : List Pair) (kept : AreKept names pairs) (link : Link) (first second : List (List ℕ)) (is_first : first ≡ with_name link.a names) (is_second : second ≡ with_name link.b first)

@@ -16,26 +16,12 @@ pub(crate) struct Pair {
     pub(crate) flow: Flow,
 }
 
-/// Whether it is about none at this place.
-fn is_off(place: usize, pair: &Pair) -> bool
-    ensures { result ≡ is_off place pair.now }
-{
-    !(pair.a == place || pair.b == place)
-}
-
-/// Whether it is about other two than these, whatever their order.
-fn joins_others(a: usize, b: usize, pair: &Pair) -> bool
-    ensures { result ≡ joins_others a b pair.now }
-{
-    !((pair.a == a && pair.b == b) || (pair.b == a && pair.a == b))
-}
-
 /// The pair of these two places goes. It is one pass.
 fn drop_pair(pairs: &mut Vec<Pair>, a: usize, b: usize)
     ensures items { pairs.new.items ≡ filter (joins_others a b) pairs.old.items }
     ensures room { (vec_len pairs.new ≤ vec_len pairs.old) × (vec_capacity pairs.new ≡ vec_capacity pairs.old) }
 {
-    pairs.retain(move |pair| joins_others(a, b, pair));
+    pairs.retain(move |pair| !((pair.a == a && pair.b == b) || (pair.b == a && pair.a == b)));
 }
 
 /// The pair takes the place of the one of its two places, and goes last, unless it is both ways. There is room for it.
@@ -66,7 +52,7 @@ fn stays(pair: &mut Pair, last: usize, gone: usize) -> bool
     ensures stays { result ≡ is_off gone pair.old }
     ensures pair { pair.new ≡ renumbered last gone pair.old }
 {
-    let stays = is_off(gone, pair);
+    let stays = !(pair.a == gone || pair.b == gone);
     pair.a = moved(last, gone, pair.a);
     pair.b = moved(last, gone, pair.b);
     stays

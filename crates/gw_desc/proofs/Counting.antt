@@ -1,4 +1,5 @@
 -- Names from one to the next, and two places whose names are the same.
+use Rattle.std.proofs.lemmas.Grind.{common_steps}
 use Rattle.std.proofs.Common.{◌≡◌, ℕ, zero, suc, ◌+◌, ◌<◌, Bool, true, false, ◌||◌, List, [], ◌∷◌, length, drop, get_or, refl, arith, add-one, drop-cons}
 use Rattle.std.specs.Bool.{Decides}
 use Rattle.std.specs.List.{list_any}
@@ -36,13 +37,7 @@ any_place x (y ∷ ys) h = by (is_same_word x y) refl h (any_place x ys)
     by false e k later = let found = later k in (suc found.0, omega (arith, found.1), found.2)
 
 place_any : (x : List ℕ) (xs : List (List ℕ)) (j : ℕ) → j < length xs → folded x ≡ folded (get_or xs j []) → list_any (is_same_word x) xs ≡ true
-place_any x [] j h same = absurd (omega arith)
-place_any x (y ∷ ys) zero h same = rw (words_same x y same) refl
-place_any x (y ∷ ys) (suc j) h same = or_true (is_same_word x y) (place_any x ys j (omega arith) same)
-  where
-    or_true : (t : Bool) → list_any (is_same_word x) ys ≡ true → (t || list_any (is_same_word x) ys) ≡ true
-    or_true true e = refl
-    or_true false e = e
+place_any x xs j h same = grind (arith, common_steps, words_same)
 
 double_at : (names : List (List ℕ)) → has_same is_same_word names ≡ true → HasDouble names
 double_at [] h = absurd cc
@@ -58,11 +53,7 @@ at_double : (names : List (List ℕ)) (i j : ℕ) → i < j → j < length names
 at_double [] i j before within same = absurd (omega arith)
 at_double (x ∷ xs) i zero before within same = absurd (omega arith)
 at_double (x ∷ xs) zero (suc j) before within same = rw (place_any x xs j (omega arith) same) refl
-at_double (x ∷ xs) (suc i) (suc j) before within same = or_last (list_any (is_same_word x) xs) (at_double xs i j (omega arith) (omega arith) same)
-  where
-    or_last : (t : Bool) → has_same is_same_word xs ≡ true → (t || has_same is_same_word xs) ≡ true
-    or_last true e = refl
-    or_last false e = e
+at_double (x ∷ xs) (suc i) (suc j) before within same = grind (arith, at_double xs i j (omega arith) (omega arith) same)
 
 pub double_decides : (names : List (List ℕ)) → Decides (has_same is_same_word names) (HasDouble names)
 double_decides names = (double_at names, λ d. at_double names d.first d.second d.before d.within d.same)

@@ -1,4 +1,5 @@
 -- A Local is filled one `$` after the other.
+use Rattle.std.proofs.lemmas.Grind.{common_steps}
 use Rattle.std.proofs.Common.{◌≡◌, ◌⊎◌, inl, inr, ℕ, zero, suc, ◌==◌, Bool, true, false, List, [], ◌∷◌, ◌++◌, length, map, codes, decimal, refl, ap, sym, ◌∙◌, subst, append_assoc, append-nil, arith}
 use Rattle.std.specs.List.{AllByRecursion, list_any, filter, slice_split, starts_with}
 use Rattle.std.specs.Prelude.{slice_index_or, slice_set}
@@ -10,7 +11,7 @@ use Rattle.gw_base.specs.Bytes.{is_one_of}
 use Rattle.gw_text.specs.Runs.{begins}
 use Rattle.gw_desc.specs.Fill.{line_ends, field_ends, ends_of, lines_of, fields_of, interleaved, has_choose, with_field, put, is_connection, is_media_line, filled_line, is_fillable_line, filled_text, filled, is_fillable, port_of}
 use Rattle.gw_desc.specs.FillSteps.{IsWhole, is_field_end, IsPut, IsFilledOnce, IsChain, IsReached}
-use Rattle.gw_desc.proofs.Fills.{none_passes, ends_next, laid_again}
+use Rattle.gw_desc.proofs.Fills.{ends_next, laid_again}
 
 -- ---- parts and their ends
 
@@ -83,8 +84,7 @@ field_at p (suc n) new (part ∷ parts) (e ∷ es) clean are same found =
     }
 
 clean_front : (p : ℕ → Bool) (front back : List ℕ) → list_any p (front ++ back) ≡ false → list_any p front ≡ false
-clean_front p [] back h = refl
-clean_front p (b ∷ bs) back h = let n = none_passes p b (bs ++ back) h in let first = n.0 in let rest = clean_front p bs back n.1 in rw (first, rest) refl
+clean_front p front back h = grind (arith, common_steps)
 
 ends_field : (behind : List ℕ) → (behind ≡ []) ⊎ (begins (is_one_of field_ends) behind ≡ true) → (behind ≡ []) ⊎ (begins is_field_end behind ≡ true)
 ends_field behind h = grind arith

@@ -1,5 +1,6 @@
 -- In a filled Local no `$` is left to fill.
-use Rattle.std.proofs.Common.{◌≡◌, ℕ, zero, suc, ◌≤◌, ◌==◌, Bool, true, false, List, [], ◌∷◌, ◌++◌, length, map, codes, decimal, bytes_eq, refl, ap, sym, ◌∙◌, arith}
+use Rattle.std.proofs.lemmas.Grind.{common_steps}
+use Rattle.std.proofs.Common.{◌≡◌, ℕ, suc, ◌≤◌, ◌==◌, Bool, true, false, List, [], ◌∷◌, ◌++◌, length, map, codes, decimal, bytes_eq, refl, ap, sym, ◌∙◌, arith}
 use Rattle.std.specs.List.{AllByRecursion, list_any, list_all, slice_split, starts_with}
 use Rattle.std.specs.Prelude.{slice_index_or, slice_set}
 use Rattle.std.proofs.lemmas.Bool.{and_parts, eqb-true, or_parts, false_from_ne_true, or_from}
@@ -20,23 +21,16 @@ split_laid : (p : ℕ → Bool) (parts : List (List ℕ)) (ends : List ℕ) → 
 split_laid p [] ends clean are same = absurd (omega (arith, same))
 split_laid p (part ∷ []) [] clean are same = parts_last p part clean.0
 split_laid p (part ∷ (other ∷ parts)) [] clean are same = absurd (omega (arith, same))
-split_laid p (part ∷ parts) (e ∷ es) clean are same =
-    parts_next p part (interleaved parts es) e clean.0 are.0 ∙ ap (λ (l : List (List ℕ)). part ∷ l) (split_laid p parts es clean.1 are.1 (omega (arith, same)))
+split_laid p (part ∷ parts) (e ∷ es) clean are same = grind (arith, split_laid p parts es clean.1 are.1 (omega (arith, same)), parts_next)
 
 clean_set : (p : ℕ → Bool) (place : ℕ) (new : List ℕ) (parts : List (List ℕ)) → IsClean p new → AllByRecursion (IsClean p) parts → AllByRecursion (IsClean p) (slice_set parts place new)
-clean_set p place new [] n clean = tt
-clean_set p zero new (part ∷ parts) n clean = (n, clean.1)
-clean_set p (suc k) new (part ∷ parts) n clean = (clean.0, clean_set p k new parts n clean.1)
+clean_set p place new parts n clean = grind (arith, common_steps)
 
 length_set : (place : ℕ) (new : List ℕ) (parts : List (List ℕ)) → length (slice_set parts place new) ≡ length parts
-length_set place new [] = refl
-length_set zero new (part ∷ parts) = refl
-length_set (suc k) new (part ∷ parts) = ap suc (length_set k new parts)
+length_set place new parts = grind (arith, common_steps)
 
 get_set : (place : ℕ) (new : List ℕ) (parts : List (List ℕ)) → slice_index_or parts place [] ≡ codes "$" → slice_index_or (slice_set parts place new) place [] ≡ new
-get_set place new [] h = absurd cc
-get_set zero new (part ∷ parts) h = refl
-get_set (suc k) new (part ∷ parts) h = get_set k new parts h
+get_set place new parts h = grind (arith, common_steps)
 
 -- ---- what is put in is no `$`, and ends no field and no line
 
@@ -73,9 +67,6 @@ no_choose_left : (place : ℕ) (new line : List ℕ) → IsInert new → has_cho
 unfolding has_choose
 no_choose_left place new line h choose = grind (arith, split_laid, clean_set, length_set, get_set, bytes_eq-Decides, ends_are, one_more, parts_clean)
 
-clean_swap : (p : ℕ → Bool) (front old new behind : List ℕ) → list_any p new ≡ false → list_any p (front ++ (old ++ behind)) ≡ false → list_any p (front ++ (new ++ behind)) ≡ false
-clean_swap p front old new behind n h = grind (arith, list_any-append, or_from, or_parts)
-
 -- of a line alone there are no lines in front
 no_lines : (lines rest : List ℕ) → IsWhole line_ends lines → list_any (is_one_of line_ends) (lines ++ rest) ≡ false → lines ≡ []
 no_lines lines rest h h2 = grind (arith, list_any-append, or_parts)
@@ -101,8 +92,7 @@ after_put is_kind place new line one kind choose =
     }
 
 after_clean : (place : ℕ) (new line text : List ℕ) → IsInert new → list_any (is_one_of line_ends) line ≡ false → IsAfter place new line text → list_any (is_one_of line_ends) text ≡ false
-after_clean place new line text h one a =
-    ap (list_any (is_one_of line_ends)) a.is ∙ clean_swap (is_one_of line_ends) a.fields (codes "$") new a.behind h.no_line (ap (list_any (is_one_of line_ends)) (sym a.was) ∙ one)
+after_clean place new line text h one a = grind (arith, common_steps)
 
 -- at least as many bytes as ends of fields
 long_enough : (place : ℕ) (new line text : List ℕ) (a : IsAfter place new line text) → place ≤ length a.fields
@@ -182,12 +172,10 @@ lines_clean address port (line ∷ lines) a p h = ((line_done address port line 
 
 lines_left : (address port : List ℕ) (lines : List (List ℕ)) → IsInert address → IsInert port → AllByRecursion (IsClean (is_one_of line_ends)) lines → list_any is_fillable_line (map (filled_line address port) lines) ≡ false
 lines_left address port [] a p h = refl
-lines_left address port (line ∷ lines) a p h =
-    or_from (is_fillable_line (filled_line address port line)) (list_any is_fillable_line (map (filled_line address port) lines)) (line_done address port line a p h.0).left (lines_left address port lines a p h.1)
+lines_left address port (line ∷ lines) a p h = grind (arith, lines_left address port lines a p h.1, or_from, line_done)
 
 length_filled : (f : List ℕ → List ℕ) (lines : List (List ℕ)) → length (map f lines) ≡ length lines
-length_filled f [] = refl
-length_filled f (line ∷ lines) = ap suc (length_filled f lines)
+length_filled f lines = grind (arith, common_steps)
 
 text_left : (address port text : List ℕ) → IsInert address → IsInert port → is_fillable (filled_text address port text) ≡ false
 unfolding filled_text is_fillable

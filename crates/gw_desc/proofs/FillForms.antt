@@ -41,9 +41,7 @@ octets_run (b ∷ bs) rest h =
 
 octets_new : (e : Bool) (new rest : List ℕ) → IsPlain new → are_octets e (new ++ rest) ≡ are_octets false rest
 octets_new e [] rest h = absurd (let some : 0 < 0 = h.some in omega arith)
-octets_new e (b ∷ bs) rest h =
-    let a = and_parts (is_plain_byte b) (list_all is_plain_byte bs) h.run in
-    octets_plain e b (bs ++ rest) (plain_byte b a.0) ∙ octets_run bs rest a.1
+octets_new e (b ∷ bs) rest h = grind (arith, and_parts, octets_plain, plain_byte, octets_run)
 
 octets_filled : (e : Bool) (before new behind : List ℕ) → IsPlain new → are_octets e (before ++ (new ++ behind)) ≡ are_octets e (before ++ 36 ∷ behind)
 octets_filled e [] new behind h = octets_new e new behind h ∙ sym (octets_plain e 36 behind dollar)
@@ -108,9 +106,7 @@ ends_run (b ∷ bs) rest h =
 
 ends_new : (kept e : Bool) (new rest : List ℕ) → IsPlain new → ends_kept kept e (new ++ rest) ≡ ends_kept true false rest
 ends_new kept e [] rest h = absurd (let some : 0 < 0 = h.some in omega arith)
-ends_new kept e (b ∷ bs) rest h =
-    let a = and_parts (is_plain_byte b) (list_all is_plain_byte bs) h.run in
-    ends_plain kept e b (bs ++ rest) (plain_byte b a.0) ∙ ends_run bs rest a.1
+ends_new kept e (b ∷ bs) rest h = grind (arith, and_parts, ends_plain, plain_byte, ends_run)
 
 ends_filled : (kept e : Bool) (before new behind : List ℕ) → IsPlain new → ends_kept kept e (before ++ (new ++ behind)) ≡ ends_kept kept e (before ++ 36 ∷ behind)
 ends_filled kept e [] new behind h = ends_new kept e new behind h ∙ sym (ends_plain kept e 36 behind dollar)
@@ -196,12 +192,7 @@ onto_run (suc places) n behind h =
 
 onto_some : (places n : ℕ) (behind : List ℕ) → length behind ≤ length (digits_onto places 10 false n behind)
 onto_some zero n behind = omega arith
-onto_some (suc places) n behind = by_last (n / 10 == 0) (onto_some places (n / 10) (digit_glyph false (n % 10) ∷ behind))
-  where
-    by_last : (last : Bool) → suc (length behind) ≤ length (digits_onto places 10 false (n / 10) (digit_glyph false (n % 10) ∷ behind))
-        → length behind ≤ length (cond last (digit_glyph false (n % 10) ∷ behind) (digits_onto places 10 false (n / 10) (digit_glyph false (n % 10) ∷ behind)))
-    by_last true y = omega arith
-    by_last false y = omega arith
+onto_some (suc places) n behind = grind (arith, onto_some places (n / 10) (digit_glyph false (n % 10) ∷ behind))
 
 some_digit : (n : ℕ) → 0 < length (digits_onto 64 10 false n [])
 some_digit n = by_last (n / 10 == 0) (onto_some 63 (n / 10) (digit_glyph false (n % 10) ∷ []))

@@ -1,4 +1,5 @@
 -- A text is filled in runs: what stays as it is goes over with what stands before it, as far as the next `$`.
+use Rattle.std.proofs.lemmas.Grind.{common_steps}
 use Rattle.std.proofs.Common.{◌≡◌, ℕ, suc, ◌+◌, ◌-◌, ◌<◌, ◌≤◌, zero, Bool, true, false, ◌==◌, ◌||◌, List, [], ◌∷◌, ◌++◌, length, take, drop, get_or, Option, None, Some, IfNone, IfSome, if◌then◌else◌, ◌&&◌, bytes_eq, codes, append-nil, subst, refl, ap, sym, ◌∙◌, append_assoc, arith}
 use Rattle.std.specs.List.{list_any}
 use Rattle.std.proofs.lemmas.Bool.{and_parts}
@@ -27,22 +28,7 @@ pub line_stays : (address port rest : List ℕ) (same len : ℕ) → len < lengt
     → list_any (is_one_of line_ends) (take len (drop same rest)) ≡ false → is_one_of line_ends (get_or (drop same rest) len 0) ≡ true
     → filled_line address port (take len (drop same rest)) ≡ take len (drop same rest)
     → take (same + (len + 1)) rest ++ filled_text address port (drop (same + (len + 1)) rest) ≡ take same rest ++ filled_text address port (drop same rest)
-line_stays address port rest same len lt none ends stays =
-    let d = drop same rest in
-    let line = take len d in
-    let e = get_or d len 0 in
-    let back = drop (len + 1) d in
-    let next = (lines_next address port d line back e (in_parts d len lt) none ends).0 in
-    let front : take (same + (len + 1)) rest ≡ take same rest ++ (line ++ e ∷ []) = take-add same (len + 1) rest ∙ ap (λ (x : List ℕ). take same rest ++ x) (one_more d len lt) in
-    let left : drop (same + (len + 1)) rest ≡ back = sym (drop-drop (len + 1) same rest) in
-    ap (λ (x : List ℕ). x ++ filled_text address port (drop (same + (len + 1)) rest)) front
-    ∙ ap (λ (x : List ℕ). (take same rest ++ (line ++ e ∷ [])) ++ filled_text address port x) left
-    ∙ append_assoc (take same rest) (line ++ e ∷ []) (filled_text address port back)
-    ∙ ap (λ (x : List ℕ). take same rest ++ ((x ++ e ∷ []) ++ filled_text address port back)) (sym stays)
-    ∙ ap (λ (x : List ℕ). take same rest ++ x) (sym next)
-  where
-    one_more : (d : List ℕ) (len : ℕ) → len < length d → take (len + 1) d ≡ take len d ++ get_or d len 0 ∷ []
-    one_more d len lt = take-add len 1 d ∙ ap (λ (x : List ℕ). take len d ++ take 1 x) (at_drop_more (λ (x : List ℕ). x) d len 0 lt)
+line_stays address port rest same len lt none ends stays = grind (arith, common_steps, lines_next, take-add)
 
 pub stays_told : (address port rest : List ℕ) (same len : ℕ) → len < length (drop same rest)
     → list_any (is_one_of line_ends) (take len (drop same rest)) ≡ false → is_one_of line_ends (get_or (drop same rest) len 0) ≡ true
@@ -138,8 +124,7 @@ none_below (b ∷ bs) (suc n) within none =
     rw (here, more) refl
 
 all_of : (text : List ℕ) → take (length text) text ≡ text
-all_of [] = refl
-all_of (b ∷ bs) = ap (λ (l : List ℕ). b ∷ l) (all_of bs)
+all_of text = grind (arith, common_steps)
 
 pub no_end : (text : List ℕ) (r : Option ℕ) → IsEnd text r → IfNone r (list_any (is_one_of line_ends) text ≡ false)
 no_end text None first = ap (λ (t : List ℕ). list_any (is_one_of line_ends) t) (sym (all_of text)) ∙ none_below text (length text) (omega arith) (λ k lt. first k (omega arith) lt)

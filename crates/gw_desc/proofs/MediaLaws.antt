@@ -1,4 +1,5 @@
 -- The readers of the parts of a Media descriptor read their forms.
+use Rattle.std.proofs.lemmas.Grind.{common_steps}
 use Rattle.std.proofs.Common.{◌≡◌, ℕ, Bool, true, false, List, [], ◌∷◌, ◌++◌, Some, None, refl, ap, sym, subst, ◌∙◌, arith}
 use Rattle.std.proofs.lemmas.List.{append-nil}
 use Rattle.gw_base.specs.Bytes.{is_digit}
@@ -205,11 +206,7 @@ media_rest_ends token.TerminationState m front rest q = braced_ends is_safe Spel
 media_rest_ends t m front rest q = stream_rest_ends t q.0 front rest q.2
 
 media_part_to : (t : Token) (m : MediaPart) (text : List ℕ) → Both (IsToken t) (MediaRest t m) text → SpellsMediaPart m text
-media_part_to token.Stream m text b =
-    let c = b.second in let id = c.second in let parts = id.1.second in
-    subst (λ (x : MediaPart). SpellsMediaPart x text) parts.1 (with_second b (with_second c (with_second id.1 parts.2)))
-media_part_to token.TerminationState m text b = subst (λ (x : MediaPart). SpellsMediaPart x text) b.second.1 (with_second b b.second.2)
-media_part_to t m text b = subst (λ (x : MediaPart). SpellsMediaPart x text) b.second.1 (stream_part_to t b.second.0 text (with_second b b.second.2))
+media_part_to t m text b = grind (arith, common_steps)
 
 media_part_from : (m : MediaPart) (text : List ℕ) → SpellsMediaPart m text → (t : Token) × Both (IsToken t) (MediaRest t m) text
 media_part_from m text b = grind arith

@@ -1,4 +1,5 @@
 -- The reader of a property reads its form.
+use Rattle.std.proofs.lemmas.Grind.{common_steps}
 use Rattle.std.proofs.Common.{◌≡◌, ◌⊎◌, inl, inr, ℕ, true, false, List, [], ◌++◌, Some, refl, ap, sym, subst, ◌∙◌, arith}
 use Rattle.std.proofs.lemmas.Bool.{eqb-true}
 use Rattle.std.proofs.lemmas.List.{append-nil}
@@ -123,24 +124,11 @@ not_equal_reads =
       | inr l ↦ sign_other (sign_byte Greater) (sign_byte NotEqual) front rest refl refl l.1
     ])
 
-alone : (s t : Sign) (text : List ℕ) → Signed s t text → IsSign (sign_byte t) text
-alone s t text b = grind (arith, append-nil)
-
 signed : (s : Sign) (text : List ℕ) → IsSign (sign_byte s) text → Signed s s text
 signed s text h = record { front = text; back = []; split = sym (append-nil text); first = h; second = (refl, refl) }
 
 relation_to : (t : Sign) (text : List ℕ) → EqualOn t text → IsSign (sign_byte t) text
-relation_to t text h =
-    elim h [
-      | inl b ↦ alone Equal t text b
-      | inr k ↦ elim k [
-        | inl b ↦ alone NotEqual t text b
-        | inr l ↦ elim l [
-          | inl b ↦ alone Less t text b
-          | inr g ↦ subst (λ (u : Sign). IsSign (sign_byte u) text) g.0 g.1
-        ]
-      ]
-    ]
+relation_to t text h = grind (arith, common_steps)
 
 relation_from : (t : Sign) (text : List ℕ) → IsSign (sign_byte t) text → EqualOn t text
 relation_from t text h = grind (arith, signed)

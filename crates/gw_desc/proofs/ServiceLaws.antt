@@ -1,4 +1,5 @@
 -- The reader of a Services parameter reads its form.
+use Rattle.std.proofs.lemmas.Grind.{common_steps}
 use Rattle.std.proofs.Common.{◌≡◌, ◌⊎◌, inl, inr, ℕ, true, false, List, [], ◌++◌, Option, Some, None, refl, ap, sym, ◌∙◌, arith}
 use Rattle.gw_base.specs.Lang.{Both}
 use Rattle.gw_text.specs.Lexical.{is_safe, is_solid, is_space_start, comma, right_brace, equals_sign, quote_mark}
@@ -8,7 +9,7 @@ use Rattle.gw_text.specs.Forms.{IsWord, IsSign, IsSomeRun}
 use Rattle.gw_text.specs.Bracket.{is_run_byte}
 use Rattle.gw_text.specs.Quoted.{IsQuoted}
 use Rattle.gw_text.specs.Reader.{◌>>=◌, quoted_read, word_read, run_read}
-use Rattle.gw_text.proofs.FormLaws.{sign_ends, sign_other, some_is, BeginsWith, begins_wider, byte_is_solid, space_bytes, safe_apart, is_solid_by, is_another, run_begins, begins_ends, both_begins, both_ends, with_second, quoted_begins}
+use Rattle.gw_text.proofs.FormLaws.{sign_ends, sign_other, some_is, BeginsWith, space_bytes, safe_apart, is_another, run_begins, begins_ends, both_begins, both_ends, with_second, quoted_begins}
 use Rattle.gw_text.proofs.ReaderLaws.{ReadsUp, Same, Any, up_as, up_next, up_skipped, up_then, up_last, up_done, up_if_sign, up_if_begins, same_up, up_shrinks, up_run, BracesUp, up_quoted}
 use Rattle.gw_desc.specs.declared.descriptor.ServiceParm.{ServiceParm}
 use Rattle.gw_desc.specs.declared.descriptor.ServiceValue.{ServiceValue}
@@ -51,8 +52,7 @@ service_value_reads =
     value_to value_from
 
 value_solid : BeginsWith is_solid SpellsServiceValue
-value_solid (value.Quoted span) text h = begins_wider (is_byte quote_mark) is_solid (byte_is_solid quote_mark refl) text (quoted_begins text h.1)
-value_solid (value.Run span) text h = run_begins is_run_byte is_solid (is_solid_by is_run_byte run_apart) text h.1.run h.1.some
+value_solid h text e = grind (arith, common_steps)
 
 -- ---- parameters
 

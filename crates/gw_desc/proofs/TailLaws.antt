@@ -1,4 +1,5 @@
 -- The reader of a tail reads its form.
+use Rattle.std.proofs.lemmas.Grind.{common_steps}
 use Rattle.std.proofs.Common.{◌≡◌, ◌⊎◌, inl, inr, ℕ, Bool, true, false, List, [], ◌++◌, Option, Some, None, refl, ap, sym, subst, ◌∙◌, append-nil, arith}
 use Rattle.gw_base.specs.Lang.{Both, ◌▹◌}
 use Rattle.gw_text.specs.Lexical.{is_safe, is_solid, equals_sign, left_brace, is_space_start}
@@ -7,7 +8,7 @@ use Rattle.gw_text.specs.Runs.{begins, is_byte, NoMore}
 use Rattle.gw_text.specs.Sign.{sign_at}
 use Rattle.gw_text.specs.Forms.{IsWord, IsSign}
 use Rattle.gw_text.specs.Reader.{◌>>=◌, group_read, if_begins, word_read}
-use Rattle.gw_text.proofs.FormLaws.{no_space, sign_ends, sign_other, BeginsWith, begins_wider, byte_is_solid, both_split, safe_apart, both_begins, both_ends, both_other, begins_ends, with_second, group_begins, ahead_ends}
+use Rattle.gw_text.proofs.FormLaws.{no_space, sign_ends, sign_other, BeginsWith, begins_wider, byte_is_solid, safe_apart, both_begins, both_ends, both_other, begins_ends, with_second, group_begins, ahead_ends}
 use Rattle.gw_text.proofs.ReaderLaws.{ReadsUp, Same, Skipped, Any, up_as, up_next, up_skipped, up_then, up_last, up_done, up_if_sign, up_if_ahead, up_if_begins, same_up, up_group}
 use Rattle.gw_desc.specs.declared.descriptor.Tail.{Tail}
 use Rattle.gw_desc.specs.Grammar.{Kept, request_depth, SpellsGroup, SpellsOptionalWord, SpellsEquals, SpellsOptionalGroup, IsThere, SpellsTail}
@@ -128,11 +129,7 @@ bare_back g text front back split none h = subst (SpellsOptionalGroup g) (sym (s
 parts_from : (equals : Bool) (word group : Option (List ℕ)) (text : List ℕ) → (SpellsEquals equals word ▹ SpellsOptionalGroup group) text → (IsThere word → equals ≡ true) → (equals ≡ true → IsThere word ⊎ IsThere group) → Both (IsSign equals_sign) (BehindEquals (tail_of equals word group)) text ⊎ BareTail (tail_of equals word group) text
 parts_from false None group text b behind some = inr (group, refl, bare_back group text b.front b.back b.split b.first b.second)
 parts_from false (Some w) group text b behind some = let e : false ≡ true = behind tt in absurd cc
-parts_from true None None text b behind some =
-    elim (some refl) [
-      | inl n ↦ absurd n
-      | inr n ↦ absurd n
-    ]
+parts_from true None None text b behind some = grind arith
 parts_from true None (Some g) text b behind some = let c = sign_takes_space equals_sign (with_first_part b (alone_equals b.front b.first)) in inl (with_second c (inl (g, refl, c.second)))
 parts_from true (Some w) group text b behind some = let c = last_two b in inl (with_second c (inr (w, with_second c.second (group, refl, c.second.second))))
 
@@ -160,10 +157,7 @@ equals_ends true None front rest h n = sign_ends is_safe equals_sign front rest 
 equals_ends true (Some w) front rest h n = both_ends is_safe equals_sign (Kept IsWord w) front rest safe_apart refl h
 
 pub tail_ends : (t : Tail (List ℕ)) (front rest : List ℕ) → SpellsTail t front → AfterTail rest → NoMore is_safe (front ++ rest)
-tail_ends t front rest h n =
-    let b = h.words in
-    ap (begins is_safe) (both_split (SpellsEquals t.equals t.word) (SpellsOptionalGroup t.group) front rest b)
-    ∙ equals_ends t.equals t.word b.front (b.back ++ rest) b.first (group_ends is_safe safe_apart refl t.group b.back rest b.second n.word)
+tail_ends t front rest h n = grind (arith, common_steps, equals_ends, group_ends, safe_apart)
 
 equals_other : (b : ℕ) → is_byte b equals_sign ≡ false → (e : Bool) (w : Option (List ℕ)) (front rest : List ℕ) → SpellsEquals e w front → sign_at b rest ≡ None → sign_at b (front ++ rest) ≡ None
 equals_other b other false w front rest h n = ap (λ (x : List ℕ). sign_at b (x ++ rest)) h ∙ n
@@ -172,7 +166,4 @@ equals_other b other true (Some w) front rest h n = both_other equals_sign b (Ke
 
 -- no tail begins with another sign
 pub tail_other : (b : ℕ) → is_byte b equals_sign ≡ false → is_byte left_brace b ≡ false → (t : Tail (List ℕ)) (front rest : List ℕ) → SpellsTail t front → sign_at b rest ≡ None → sign_at b (front ++ rest) ≡ None
-tail_other b equals brace t front rest h n =
-    let w = h.words in
-    ap (sign_at b) (both_split (SpellsEquals t.equals t.word) (SpellsOptionalGroup t.group) front rest w)
-    ∙ equals_other b equals t.equals t.word w.front (w.back ++ rest) w.first (group_other b brace t.group w.back rest w.second n)
+tail_other b equals brace t front rest h n = grind (arith, common_steps, equals_other, group_other)

@@ -1,5 +1,6 @@
 -- Texts of two forms and more.
-use Rattle.std.proofs.Common.{◌≡◌, ℕ, true, false, List, [], ◌∷◌, ◌++◌, Some, None, refl, ap, sym, ◌∙◌, append_assoc, arith}
+use Rattle.std.proofs.lemmas.Grind.{common_steps}
+use Rattle.std.proofs.Common.{◌≡◌, ℕ, true, false, List, ◌++◌, Some, None, refl, ap, sym, ◌∙◌, append_assoc, arith}
 use Rattle.std.proofs.lemmas.List.Folds.{concat-append}
 use Rattle.gw_base.specs.Lang.{Both, ◌▹◌}
 use Rattle.gw_text.specs.Lexical.{is_safe, is_solid}
@@ -34,8 +35,7 @@ with_first_part b x = record { front = b.front; back = b.back; split = b.split; 
 -- ---- white space
 
 each_both : (P : List ℕ → Type 0) (xs ys : List (List ℕ)) → Each P xs → Each P ys → Each P (xs ++ ys)
-each_both P [] ys h g = g
-each_both P (x ∷ xs) ys h g = (h.0, each_both P xs ys h.1 g)
+each_both P xs ys h g = grind (arith, common_steps)
 
 pub space_both : (front back : List ℕ) → IsSpace front → IsSpace back → IsSpace (front ++ back)
 space_both front back h g = grind (arith, each_both, concat-append)

@@ -1,5 +1,5 @@
 -- What is gathered for a request has the same keys as its footprint.
-use Rattle.std.proofs.Common.{◌≡◌, ℕ, Bool, true, false, List, [], ◌∷◌, ◌++◌, drop, length, Option, None, refl, sym, ap, ◌∙◌, append_assoc}
+use Rattle.std.proofs.Common.{◌≡◌, ℕ, Bool, true, false, List, [], ◌∷◌, ◌++◌, drop, length, Option, None, refl, sym, ap, ◌∙◌}
 use Rattle.std.specs.Prelude.{◌&&◌, ◌||◌, flat_map}
 use Rattle.std.specs.List.{list_any}
 use Rattle.std.proofs.lemmas.List.Folds.{list_any-append}
@@ -142,15 +142,3 @@ is_footprint m numbers slots requested start e k =
     has_both k start rest ∙ ap (λ z. z || has rest k) (ap (λ l. has l k) e ∙ has_if k (list_any spans_all requested) (every_key m)) ∙ sym (all_split k m numbers slots requested)
 
 -- ---- on the way
-
-pub own_more : (m : Maps) (before all now : List Key) (slots later : List (Option ℕ)) (cs rest : List Command) (c : Command) (slot : Option ℕ)
-    → cs ≡ c ∷ rest → slot ≡ first_owned slots → later ≡ later_owned slots → now ≡ before ++ own_keys m (slot, c)
-    → before ++ flat_map (own_keys m) (paired_commands slots cs) ≡ all → now ++ flat_map (own_keys m) (paired_commands later rest) ≡ all
-own_more m before all now slots later cs rest c slot split mine theirs is so =
-    let those : List (Option ℕ) → List Key = λ s. flat_map (own_keys m) (paired_commands s rest) in
-    ap (λ l. l ++ those later) is
-    ∙ ap (λ o. (before ++ own_keys m (o, c)) ++ those later) mine
-    ∙ ap (λ s. (before ++ own_keys m (first_owned slots, c)) ++ those s) theirs
-    ∙ append_assoc before (own_keys m (first_owned slots, c)) (those (later_owned slots))
-    ∙ ap (λ l. before ++ flat_map (own_keys m) (paired_commands slots l)) (sym split)
-    ∙ so

@@ -7,7 +7,7 @@ use Rattle.std.specs.declared.cmp.Ordering.TheVariants.{Less, Equal, Greater}
 use Rattle.std.proofs.lemmas.List.{take_rest}
 use Rattle.std.proofs.lemmas.Map.Keys.{sorted_head, sorted_tail}
 use Rattle.gw_base.specs.declared.key.Key.{Key}
-use Rattle.gw_base.specs.declared.key.Key.TheVariants.{Term, Ctx, Whole}
+use Rattle.gw_base.specs.declared.key.Key.TheVariants.{Whole}
 use Rattle.gw_base.specs.Keys.{has, same_key}
 use Rattle.gw_table.specs.KeyLists.{key_cmp, IsInOrder}
 use Rattle.gw_table.proofs.KeyOrder.{key_total, key_test}
@@ -105,15 +105,10 @@ module _ (a b : List Key) where
 -- ---- the last key
 
 not_whole : (a b : Key) → key_cmp a b ≡ Less → same_key Whole a ≡ false
-not_whole (Term t) b e = refl
-not_whole (Ctx n) b e = refl
-not_whole Whole (Term t) e = cc
-not_whole Whole (Ctx n) e = cc
-not_whole Whole Whole e = cc
+not_whole a b e = grind arith
 
 or_false : (b : Bool) → (b || false) ≡ b
-or_false true = refl
-or_false false = refl
+or_false b = grind arith
 
 pub last_whole : (keys : List Key) (k : Key) → IsInOrder keys → Some k ≡ slice_get keys (length keys - 1) → same_key Whole k ≡ has keys Whole
 last_whole [] k h e = absurd cc

@@ -1,10 +1,10 @@
 -- Parts that are out, and parts that come back changed.
-use Rattle.std.proofs.Common.{◌≡◌, ℕ, Bool, true, false, cond, List, Option, None, get_or, refl, ap, ◌∙◌, sym, arith}
+use Rattle.std.proofs.Common.{◌≡◌, ℕ, Bool, cond, List, Option, None, get_or, ◌∙◌, arith}
 use Rattle.gw_base.specs.declared.key.Key.{Key}
-use Rattle.gw_base.specs.declared.key.Key.TheVariants.{Term, Ctx}
+use Rattle.gw_base.specs.declared.key.Key.TheVariants.{Term}
 use Rattle.gw_base.specs.Keys.{has}
 use Rattle.gw_term.specs.declared.record.Termination.{Termination}
-use Rattle.gw_table.specs.Maps.{Maps, term, ctx}
+use Rattle.gw_table.specs.Maps.{Maps, term}
 use Rattle.gw_table.specs.Parts.{restricted, cut, overlaid}
 use Rattle.gw_table.specs.Reserved.{slot_name}
 use Rattle.gw_table.specs.Unused.{owned}
@@ -14,23 +14,15 @@ use Rattle.gw_reserve.specs.Owned.{AreFreeSlots}
 
 -- what is laid over the keys does not depend on what was there
 pub laid_beside : (keys : List Key) (part m : Maps) → overlaid keys part (cut keys m) ≡ overlaid keys part m
-laid_beside keys part m = same_maps (overlaid keys part (cut keys m)) (overlaid keys part m)
-    (λ q. term-overlaid keys part (cut keys m) q ∙ ap (cond (has keys (Term q)) (term part q)) (term-cut keys m q) ∙ at (has keys (Term q)) (term part q) (term m q) ∙ sym (term-overlaid keys part m q))
-    (λ q. ctx-overlaid keys part (cut keys m) q ∙ ap (cond (has keys (Ctx q)) (ctx part q)) (ctx-cut keys m q) ∙ at (has keys (Ctx q)) (ctx part q) (ctx m q) ∙ sym (ctx-overlaid keys part m q))
-  where
-    at : {X : Type 0} (b : Bool) (x y : Option X) → cond b x (cond b None y) ≡ cond b x y
-    at true x y = refl
-    at false x y = refl
+laid_beside keys part m = grind (arith, same_maps, term-overlaid, term-cut, ctx-overlaid, ctx-cut)
 
 -- ---- slots that are unused
 
 none_in : (b : Bool) (o : Option Termination) → o ≡ None → cond b o None ≡ None
-none_in true o e = e
-none_in false o e = refl
+none_in b o e = grind arith
 
 none_beside : (b : Bool) (o : Option Termination) → o ≡ None → cond b None o ≡ None
-none_beside true o e = refl
-none_beside false o e = e
+none_beside b o e = grind arith
 
 -- slots that have no termination in some maps have none in maps with fewer
 fewer : (slots : List (Option ℕ)) (m n : Maps) → ((q : List ℕ) → term m q ≡ None → term n q ≡ None) → AreFreeSlots m slots → AreFreeSlots n slots

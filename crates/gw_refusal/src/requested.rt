@@ -96,38 +96,22 @@ pub fn matches(term: &TermRef, name: &TermName) -> bool
     }
 }
 
-fn is_audit(descriptor: &Descriptor<'_>) -> bool
-    ensures { result ≡ is_audit descriptor.now }
-{
-    matches!(descriptor, Descriptor::Audit(_))
-}
-
-fn is_services(descriptor: &Descriptor<'_>) -> bool
-    ensures { result ≡ is_services descriptor.now }
-{
-    matches!(descriptor, Descriptor::Services(_))
-}
-
 fn find_audit<'a, 'b>(descriptors: &'b [Descriptor<'a>]) -> Option<&'b Descriptor<'a>>
     ensures { option_copied result ≡ find is_audit descriptors.now }
 {
-    descriptors.iter().find(|d| is_audit(d))
-}
-
-fn words_in<'a, 'b>(descriptor: &'b Descriptor<'a>) -> Option<&'b AuditItems<'a>>
-    ensures { unwrap_or (option_copied result) [] ≡ words_in (Some descriptor.now) }
-{
-    match descriptor {
-        Descriptor::Audit(words) => Some(words),
-        _ => None,
-    }
+    descriptors
+        .iter()
+        .find(|d| matches!(d, Descriptor::Audit(_)))
 }
 
 /// What is to be audited: the words of the first Audit, if there is one.
 pub fn first_audit<'a, 'b>(descriptors: &'b [Descriptor<'a>]) -> Option<&'b AuditItems<'a>>
     ensures { unwrap_or (option_copied result) [] ≡ audited descriptors.now }
 {
-    words_in(find_audit(descriptors)?)
+    match find_audit(descriptors)? {
+        Descriptor::Audit(words) => Some(words),
+        _ => None,
+    }
 }
 
 /// Whether anything is to be audited.
@@ -159,16 +143,9 @@ pub fn requests_media(descriptors: &[Descriptor<'_>]) -> bool
 fn find_services<'a, 'b>(descriptors: &'b [Descriptor<'a>]) -> Option<&'b Descriptor<'a>>
     ensures { option_copied result ≡ find is_services descriptors.now }
 {
-    descriptors.iter().find(|d| is_services(d))
-}
-
-fn parms_in<'a, 'b>(descriptor: &'b Descriptor<'a>) -> Option<&'b Listed<'a, ServiceParm<'a>>>
-    ensures { unwrap_or (option_copied result) [] ≡ parms_in (Some descriptor.now) }
-{
-    match descriptor {
-        Descriptor::Services(parms) => Some(parms),
-        _ => None,
-    }
+    descriptors
+        .iter()
+        .find(|d| matches!(d, Descriptor::Services(_)))
 }
 
 /// The parameters of the first Services, if there is one.
@@ -177,7 +154,10 @@ fn first_services<'a, 'b>(
 ) -> Option<&'b Listed<'a, ServiceParm<'a>>>
     ensures { unwrap_or (option_copied result) [] ≡ parms_in (find is_services descriptors.now) }
 {
-    parms_in(find_services(descriptors)?)
+    match find_services(descriptors)? {
+        Descriptor::Services(parms) => Some(parms),
+        _ => None,
+    }
 }
 
 /// The first parameter of this name.

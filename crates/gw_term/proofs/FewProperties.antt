@@ -1,5 +1,5 @@
 -- A merge leaves no list of properties with too many.
-use Rattle.std.proofs.Common.{◌≡◌, ◌≤◌, List, length, Option, Some, None, arith}
+use Rattle.std.proofs.Common.{◌≡◌, ◌≤◌, List, length, Option, Some, arith}
 use Rattle.gw_base.specs.declared.command_words.Rules.{Rules}
 use Rattle.gw_desc.specs.declared.descriptor.Descriptor.{Descriptor}
 use Rattle.gw_term.specs.declared.record.Stream.{Stream}
@@ -11,12 +11,10 @@ use Rattle.gw_term.proofs.Made.{carried_over}
 use Rattle.gw_term.proofs.StreamsFound.{found_after}
 
 few_of : (s : Option Stream) → HasFewIn s → length (list_in s) ≤ most_properties
-few_of None h = omega arith
-few_of (Some s) h = h
+few_of s h = grind arith
 
 few_in : (s : Option Stream) → length (list_in s) ≤ most_properties → HasFewIn s
-few_in None h = tt
-few_in (Some s) h = h
+few_in s h = grind arith
 
 pub merged_few : (rules : Rules) (descriptors : List Descriptor) (old new : Termination) → HasFew old → merged rules descriptors old ≡ Some new → HasFew new
 merged_few rules descriptors old new few h =

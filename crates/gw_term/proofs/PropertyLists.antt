@@ -1,8 +1,8 @@
 -- A list of properties after some were put into it, one after the other.
-use Rattle.std.proofs.Common.{◌≡◌, ◌⊎◌, inl, inr, ℕ, zero, suc, ◌+◌, ◌<◌, ◌≤◌, Bool, true, false, not, ◌||◌, cond, List, [], ◌∷◌, ◌++◌, length, map, Option, Some, None, bytes_eq, refl, ap, sym, ◌∙◌, subst, append_assoc, append-nil, arith, length-append, one-add, lt-ltb, ltb-false}
+use Rattle.std.proofs.lemmas.Grind.{common_steps}
+use Rattle.std.proofs.Common.{◌≡◌, ◌⊎◌, inl, inr, ℕ, zero, suc, ◌+◌, ◌<◌, ◌≤◌, Bool, true, false, ◌||◌, cond, List, [], ◌∷◌, ◌++◌, length, map, Option, Some, None, bytes_eq, refl, ap, sym, ◌∙◌, subst, append_assoc, append-nil, arith, length-append, one-add, ltb-false}
 use Rattle.std.specs.Prelude.{slice_set, nat_lt}
 use Rattle.std.specs.List.{list_any, filter, find, last_or, slice_get}
-use Rattle.std.specs.Option.{option_or}
 use Rattle.std.proofs.lemmas.List.Folds.{find-append, list_any-append}
 use Rattle.std.proofs.lemmas.Bool.{ltb-true}
 use Rattle.std.proofs.lemmas.Slice.Eq.{bytes_eq-Decides}
@@ -23,14 +23,6 @@ same_name a b = (bytes_eq-Decides (folded a) (folded b)).0
 
 named_same : (a b : List ℕ) → folded a ≡ folded b → bytes_eq (folded a) (folded b) ≡ true
 named_same a b = (bytes_eq-Decides (folded a) (folded b)).1
-
--- a property of the same name in any case has the name where the other has it
-same_test : (name : List ℕ) (p q : P) → folded p.name ≡ folded q.name → is_of_name name p ≡ is_of_name name q
-same_test name p q h = ap (λ (x : List ℕ). bytes_eq x (folded name)) h
-
--- a name that is the same in any case finds the same
-same_any : (a b : List ℕ) (list : List P) → folded a ≡ folded b → list_any (is_of_name a) list ≡ list_any (is_of_name b) list
-same_any a b list h = ap (λ (x : List ℕ). list_any (λ (q : P). bytes_eq (folded q.name) x) list) h
 
 -- ---- where a name stands
 
@@ -62,13 +54,8 @@ pub record StandsNot (p : P) (list : List P) : Type 0 where
   none : list_any (is_of_name p.name) list ≡ false
   place : property_place p.name list ≡ length list
 
-stands_not : (p q : P) (qs : List P) → is_of_name p.name q ≡ false → StandsNot p qs → StandsNot p (q ∷ qs)
-stands_not p q qs other s = record { none = let rest = s.none in rw (other, rest) refl; place = rw (other, one-add) (ap suc s.place) }
-
 where_by : (p q : P) (qs : List P) (t : Bool) → is_of_name p.name q ≡ t → Stands p qs ⊎ StandsNot p qs → Stands p (q ∷ qs) ⊎ StandsNot p (q ∷ qs)
-where_by p q qs true e h = inl (stands_here p q qs e)
-where_by p q qs false e (inl s) = inl (stands_later p q qs e s)
-where_by p q qs false e (inr s) = inr (stands_not p q qs e s)
+where_by p q qs t e h = grind (arith, stands_here, stands_later)
 
 pub where_stands : (p : P) (list : List P) → Stands p list ⊎ StandsNot p list
 where_stands p [] = inr (record { none = refl; place = refl })
@@ -97,31 +84,16 @@ IsOnePut p list new = IsReplaced p list new ⊎ IsAdded p list new
 
 place_within : (p : P) (front back : List P) (was : P) → is_of_name p.name was ≡ true → property_place p.name (front ++ was ∷ back) < length (front ++ was ∷ back)
 place_within p [] back was same = rw same (omega arith)
-place_within p (q ∷ qs) back was same = by (is_of_name p.name q) (place_within p qs back was same)
-  where
-    by : (t : Bool) → property_place p.name (qs ++ was ∷ back) < length (qs ++ was ∷ back) → cond (not t) (1 + property_place p.name (qs ++ was ∷ back)) 0 < suc (length (qs ++ was ∷ back))
-    by true h = omega arith
-    by false h = omega (arith, h)
+place_within p (q ∷ qs) back was same = grind (arith, place_within p qs back was same)
 
 some_of : (a b : List P) → Some a ≡ Some b → a ≡ b
 some_of a b h = cc
 
 put_there : (p : P) (list : List P) (s : Stands p list) → put_property p list ≡ Some (s.front ++ p ∷ s.back)
-put_there p list s =
-    let within : nat_lt (property_place p.name list) (length list) ≡ true = lt_is (property_place p.name list) (length list) (in_list s.split) in
-    rw within (ap Some s.new)
-  where
-    in_list : list ≡ s.front ++ s.was ∷ s.back → property_place p.name list < length list
-    in_list e = rw e (place_within p s.front s.back s.was s.same)
-
-    lt_is : (a b : ℕ) → a < b → nat_lt a b ≡ true
-    lt_is a b h = grind (arith, lt-ltb)
+put_there p list s = grind (arith, place_within)
 
 put_last : (p : P) (list : List P) → StandsNot p list → put_property p list ≡ cond (nat_lt (length list) most_properties) (Some (list ++ p ∷ [])) None
-put_last p list s = rw (s.place, not_below (length list)) refl
-  where
-    not_below : (n : ℕ) → nat_lt n n ≡ false
-    not_below n = grind (arith, ltb-false)
+put_last p list s = grind arith
 
 -- nothing is put where the name is new and the list is full
 pub record IsFull (p : P) (list : List P) : Type 0 where
@@ -155,43 +127,21 @@ is_full p list h = subst (IsPut p list) h (is_put p list)
 
 find_none : (test : P → Bool) (list : List P) → list_any test list ≡ false → find test list ≡ None
 find_none test [] h = refl
-find_none test (q ∷ qs) h = by (test q) refl h (find_none test qs)
-  where
-    by : (t : Bool) → test q ≡ t → t || list_any test qs ≡ false → (list_any test qs ≡ false → find test qs ≡ None) → find test (q ∷ qs) ≡ None
-    by true e k later = absurd cc
-    by false e k later = rw e (later k)
-
-or_none : (o : Option P) → option_or o None ≡ o
-or_none None = refl
-or_none (Some p) = refl
+find_none test (q ∷ qs) h = grind (arith, find_none test qs)
 
 found_replaced : (p : P) (list new : List P) (name : List ℕ) → IsReplaced p list new → (t : Bool) → is_of_name name p ≡ t → look_up name new ≡ cond t (Some p) (look_up name list)
-found_replaced p list new name s true e =
-    let none : find (is_of_name name) s.front ≡ None = find_none (is_of_name name) s.front (same_any name p.name s.front (sym (same_name p.name name e)) ∙ s.first) in
-    ap (look_up name) s.is ∙ find-append (is_of_name name) s.front (p ∷ s.back) ∙ rw (none, e) refl
-found_replaced p list new name s false e =
-    let before : is_of_name name s.was ≡ false = same_test name s.was p s.same ∙ e in
-    ap (look_up name) s.is ∙ find-append (is_of_name name) s.front (p ∷ s.back)
-    ∙ ap (option_or (find (is_of_name name) s.front)) (rw (e, before) refl)
-    ∙ sym (ap (look_up name) s.split ∙ find-append (is_of_name name) s.front (s.was ∷ s.back))
+found_replaced p list new name s t e = grind (arith, find_none, same_name, find-append)
 
 found_added : (p : P) (list new : List P) (name : List ℕ) → IsAdded p list new → (t : Bool) → is_of_name name p ≡ t → look_up name new ≡ cond t (Some p) (look_up name list)
-found_added p list new name s true e =
-    let none : find (is_of_name name) list ≡ None = find_none (is_of_name name) list (same_any name p.name list (sym (same_name p.name name e)) ∙ s.none) in
-    ap (look_up name) s.is ∙ find-append (is_of_name name) list (p ∷ []) ∙ rw (none, e) refl
-found_added p list new name s false e = ap (look_up name) s.is ∙ find-append (is_of_name name) list (p ∷ []) ∙ rw e (or_none (find (is_of_name name) list))
+found_added p list new name s t e = grind (arith, find_none, same_name, find-append)
 
 one_found : (p : P) (list new : List P) (name : List ℕ) → IsOnePut p list new → (t : Bool) → is_of_name name p ≡ t → look_up name new ≡ cond t (Some p) (look_up name list)
-one_found p list new name (inl s) = found_replaced p list new name s
-one_found p list new name (inr s) = found_added p list new name s
+one_found p list new name h = grind (arith, found_replaced, found_added)
 
 -- ---- what stays
 
 get_replaced : (front back : List P) (was p : P) (place : ℕ) (q : P) → folded was.name ≡ folded p.name → is_of_name q.name p ≡ false → slice_get (front ++ was ∷ back) place ≡ Some q → slice_get (front ++ p ∷ back) place ≡ Some q
-get_replaced [] back was p zero q same other h =
-    let is : was ≡ q = cc in
-    let named : is_of_name q.name p ≡ true = named_same p.name q.name (sym same ∙ ap (λ (x : P). folded x.name) is) in
-    let clash : true ≡ false = sym named ∙ other in absurd cc
+get_replaced [] back was p zero q same other h = grind (arith, named_same)
 get_replaced [] back was p (suc place) q same other h = h
 get_replaced (x ∷ xs) back was p zero q same other h = h
 get_replaced (x ∷ xs) back was p (suc place) q same other h = get_replaced xs back was p place q same other h
@@ -202,31 +152,22 @@ get_front (x ∷ xs) back zero q h = h
 get_front (x ∷ xs) back (suc place) q h = get_front xs back place q h
 
 one_stays : (p : P) (list new : List P) → IsOnePut p list new → (place : ℕ) (q : P) → slice_get list place ≡ Some q → is_of_name q.name p ≡ false → slice_get new place ≡ Some q
-one_stays p list new (inl s) place q h other =
-    ap (λ (l : List P). slice_get l place) s.is ∙ get_replaced s.front s.back s.was p place q s.same other (sym (ap (λ (l : List P). slice_get l place) s.split) ∙ h)
-one_stays p list new (inr s) place q h other = ap (λ (l : List P). slice_get l place) s.is ∙ get_front list (p ∷ []) place q h
+one_stays p list new h place q e other = grind (arith, get_replaced, get_front)
 
 -- ---- names
 
 names_with : (front back : List P) (a b : P) → folded a.name ≡ folded b.name → lower_names (front ++ a ∷ back) ≡ lower_names (front ++ b ∷ back)
-names_with [] back a b h = ap (λ (n : List ℕ). n ∷ lower_names back) h
-names_with (x ∷ xs) back a b h = ap (λ (l : List (List ℕ)). folded x.name ∷ l) (names_with xs back a b h)
+names_with front back a b h = grind (arith, common_steps)
 
 names_both : (xs ys : List P) → lower_names (xs ++ ys) ≡ lower_names xs ++ lower_names ys
-names_both [] ys = refl
-names_both (x ∷ xs) ys = ap (λ (l : List (List ℕ)). folded x.name ∷ l) (names_both xs ys)
+names_both xs ys = grind (arith, common_steps)
 
 is_known : (name : List ℕ) (list : List P) → list_any (λ other. bytes_eq other (folded name)) (lower_names list) ≡ list_any (is_of_name name) list
 is_known name [] = refl
 is_known name (q ∷ qs) = ap (λ (t : Bool). is_of_name name q || t) (is_known name qs)
 
 any_there : (test : P → Bool) (front back : List P) (was : P) → test was ≡ true → list_any test (front ++ was ∷ back) ≡ true
-any_there test [] back was h = rw h refl
-any_there test (x ∷ xs) back was h = by (test x) (any_there test xs back was h)
-  where
-    by : (t : Bool) → list_any test (xs ++ was ∷ back) ≡ true → t || list_any test (xs ++ was ∷ back) ≡ true
-    by true k = refl
-    by false k = k
+any_there test front back was h = grind (arith, common_steps)
 
 -- what the names are after it and some more
 pub one_names : (p : P) (list mid : List P) (more : List (List ℕ)) → IsOnePut p list mid → lower_names mid ++ new_names (lower_names mid) more ≡ lower_names list ++ new_names (lower_names list) (folded p.name ∷ more)
@@ -244,13 +185,7 @@ one_names p list mid more (inr s) =
 -- ---- how many, and none twice
 
 one_few : (p : P) (list new : List P) → IsOnePut p list new → length list ≤ most_properties → length new ≤ most_properties
-one_few p list new (inl s) h =
-    let a : length list ≡ length s.front + suc (length s.back) = ap length s.split ∙ length-append s.front (s.was ∷ s.back) in
-    let b : length new ≡ length s.front + suc (length s.back) = ap length s.is ∙ length-append s.front (p ∷ s.back) in
-    omega (arith, a, b, h)
-one_few p list new (inr s) h =
-    let b : length new ≡ length list + 1 = ap length s.is ∙ length-append list (p ∷ []) in
-    omega (arith, b, s.room)
+one_few p list new h e = grind (arith, length-append)
 
 abbrev some_same : List (List ℕ) → Bool
 some_same names = has_same bytes_eq names
@@ -265,12 +200,10 @@ twice_lower [] = refl
 twice_lower (n ∷ ns) = rw (any_lower n ns, twice_lower ns) refl
 
 neither : (s t : Bool) → s || t ≡ false → (s ≡ false) × (t ≡ false)
-neither true t h = absurd cc
-neither false t h = (refl, h)
+neither s t h = grind arith
 
 two_none : (s t : Bool) → s ≡ false → t ≡ false → s || t ≡ false
-two_none false t h k = k
-two_none true t h k = h
+two_none s t h k = grind arith
 
 once_last : (names : List (List ℕ)) (name : List ℕ) → some_same names ≡ false → list_any (λ other. bytes_eq other name) names ≡ false → some_same (names ++ name ∷ []) ≡ false
 once_last [] name h k = refl
@@ -293,8 +226,7 @@ one_once p list new (inr s) h =
 
 last_by : (name : List ℕ) (p : P) (ps list mid : List P) (t : Bool) → is_of_name name p ≡ t → look_up name mid ≡ cond t (Some p) (look_up name list)
     → last_or (look_up name mid) (filter (is_of_name name) ps) ≡ last_or (look_up name list) (filter (is_of_name name) (p ∷ ps))
-last_by name p ps list mid true e h = rw (h, e) refl
-last_by name p ps list mid false e h = rw (h, e) refl
+last_by name p ps list mid t e h = grind arith
 
 pub after_puts : (sent list new : List P) → each put_property sent list ≡ Some new → IsListAfter sent list new
 unfolding new_names
@@ -325,8 +257,7 @@ after_puts (p ∷ ps) list new h =
 -- ---- where a list would be too long
 
 length_lower : (list : List P) → length (lower_names list) ≡ length list
-length_lower [] = refl
-length_lower (p ∷ ps) = ap suc (length_lower ps)
+length_lower list = grind (arith, common_steps)
 
 fresh_names : (p : P) (list : List P) (more : List (List ℕ)) → list_any (is_of_name p.name) list ≡ false → new_names (lower_names list) (folded p.name ∷ more) ≡ folded p.name ∷ new_names (lower_names list ++ folded p.name ∷ []) more
 unfolding new_names

@@ -1,9 +1,9 @@
 //! The descriptors that most commands have, which one look finds right.
 
-ghost use Rattle.std.specs.Prelude.{◌≡◌, ◌∷◌, [], None, true, not};
+ghost use Rattle.std.specs.Prelude.{◌≡◌, ◌∷◌, [], None, true};
 ghost use Rattle.std.specs.Bool.{OnTrue};
 ghost use Rattle.gw_desc.specs.declared.descriptor.StreamPart.TheVariants as part;
-ghost use Rattle.gw_desc.specs.Checks.{check_code, is_bad_mode};
+ghost use Rattle.gw_desc.specs.Checks.{check_code};
 ghost use Rattle.gw_desc.specs.Plain.{is_same_part, is_usual, HasPlainMedia, HasShortTail, IsPlainMedia, IsPlainPart, IsPlainStream};
 
 use super::limits::{LONGEST_KEPT, is_stream_number, is_tail_long};
@@ -11,19 +11,12 @@ use crate::descriptor::{Descriptor, MediaPart, Property, StreamPart};
 use crate::values::{is_mode, mode_set_by};
 use gw_base::{Span, Verb};
 
-/// Whether the property is another one than Mode, or a Mode that sets a mode.
-fn is_mode_plain(property: &Property<Span<'_>>) -> bool
-    ensures { result ≡ not (is_bad_mode property.now) }
-{
-    !is_mode(property.name.as_bytes()) || mode_set_by(property).is_some()
-}
-
 /// Whether nothing is wrong in the property, as the one of a LocalControl.
 #[tactic(auto, using(crate::proofs::PlainLaws::plain_property))]
 fn is_only_property_plain(property: &Property<Span<'_>>) -> bool
     ensures { OnTrue result (IsPlainPart (part.LocalControl (property.now ∷ []))) }
 {
-    is_mode_plain(property)
+    !is_mode(property.name.as_bytes()) || mode_set_by(property).is_some()
 }
 
 /// Whether nothing is wrong in a LocalControl of one property.
@@ -128,12 +121,6 @@ fn has_short_tail(descriptor: &Descriptor<'_>) -> bool
     }
 }
 
-fn is_usual(verb: Verb) -> bool
-    ensures { result ≡ is_usual verb }
-{
-    matches!(verb, Verb::Add | Verb::Modify | Verb::Move)
-}
-
 /// Whether nothing is wrong in a Media, as the one descriptor of a command.
 #[tactic(auto, using(crate::proofs::PlainLaws::plain_of_one))]
 fn is_only_plain(verb: Verb, descriptor: &Descriptor<'_>) -> bool
@@ -157,7 +144,7 @@ fn are_both_plain(verb: Verb, first: &Descriptor<'_>, second: &Descriptor<'_>) -
 pub(crate) fn is_plain(verb: Verb, descriptors: &[Descriptor<'_>]) -> bool
     ensures { OnTrue result (check_code verb descriptors.now ≡ None) }
 {
-    if !is_usual(verb) {
+    if !matches!(verb, Verb::Add | Verb::Modify | Verb::Move) {
         return false;
     }
     match descriptors {

@@ -136,13 +136,6 @@ fn has_first_twice(parts: &[MediaPart<'_>]) -> bool
         || up_to_two_first(parts, PartKind::Control) == 2
 }
 
-/// The bit of a number in its word.
-fn bit_of(number: u16) -> u64
-    ensures { result ≡ 2 ^ (number % 64) }
-{
-    1 << (number % 64)
-}
-
 /// Sets the bit of the number; whether it was set.
 #[tactic(auto, unfolding(crate::specs::NumberSet::is_in_set, crate::specs::NumberSet::with_mark))]
 fn mark(seen: &mut [u64], number: u16) -> bool
@@ -151,7 +144,7 @@ fn mark(seen: &mut [u64], number: u16) -> bool
     ensures after { seen.new ≡ with_mark seen.old number }
     ensures small { number < 2 ^ 16 }
 {
-    let bit = bit_of(number);
+    let bit = 1 << (number % 64);
     let word = &mut seen[(number / 64) as usize];
     let was_set = *word & bit != 0;
     *word |= bit;

@@ -1,11 +1,8 @@
-use Rattle.std.proofs.Common.{◌≡◌, refl, of_calls, rules}
+use Rattle.std.proofs.Common.{◌≡◌, refl, rules}
 use Rattle.gw_ctx.specs.Places.{is_off, renumbered}
 use Rattle.gw_ctx.specs.contracts.pairs.fn.drop_at.retain_mut as closure
 use Rattle.gw_ctx.proofs.Lists.{retained}
 use Rattle.gw_ctx.proofs.pairs.drop_at.Goals as goal
-
-pub retain_mut-requires : goal.retain_mut-requires
-retain_mut-requires c = search of_calls parts 8
 
 pub returns : goal.returns
 returns c =

@@ -33,21 +33,4 @@ loop-len-preserved-in-Some-choice_of c =
     )
 
 pub loop-len-preserved : goal.loop-len-preserved
-loop-len-preserved c =
-    let address = c.args.address.now in
-    let port = c.args.port.now in
-    let rest : List ℕ = c.loop-len.rest.now in
-    let same = c.loop-len.same in
-    let len = c.in-Some.len in
-    let d : List ℕ = drop same rest in
-    let within : len < length d = subst (λ (l : List ℕ). len < length l) c.text_from.ensures c.in-Some.ensures.within in
-    let first : list_any (is_one_of line_ends) (take len d) ≡ false = subst (λ (l : List ℕ). list_any (is_one_of line_ends) (take len l) ≡ false) c.text_from.ensures c.in-Some.ensures.first in
-    let end : is_one_of line_ends (get_or d len 0) ≡ true = subst (λ (l : List ℕ). is_one_of line_ends (get_or l len 0) ≡ true) c.text_from.ensures c.in-Some.ensures.end in
-    let next = stays_told address port rest same len within first end in
-    let stays : filled_line address port (take len d) ≡ take len d = subst (λ (l : List ℕ). filled_line address port l ≡ l) c.line_at.ensures c.in-None.ensures.filled in (
-      omega (arith, length-drop same rest, within, c.loop-len.invariant.0),
-      c.loop-len.invariant.1,
-      ap (λ (l : List ℕ). c.loop-len.out.items ++ l) (line_stays address port rest same len within first end stays)
-          ∙ c.loop-len.invariant.2,
-      told_past c.loop-len.fillable (is_fillable_line (take len d)) (is_fillable (drop (same + (len + 1)) rest)) (is_fillable c.args.text.now) (is_fillable d) c.loop-len.invariant.3 next (c.in-None.ensures.fillable ∙ ap is_fillable_line c.line_at.ensures),
-    )
+loop-len-preserved c = grind (arith, stays_told, length-drop, line_stays, told_past)

@@ -1,4 +1,4 @@
-use Rattle.std.proofs.Common.{◌≡◌, ◌∙◌, ℕ, List, length, bytes_eq, get_or, map, filter, Some, None, arith, sym, ap}
+use Rattle.std.proofs.Common.{◌≡◌, ◌∙◌, ℕ, List, length, bytes_eq, get_or, map, filter, Some, arith, sym, ap}
 use Rattle.std.specs.List.{position}
 use Rattle.gw_base.specs.declared.context_words.Link.{Link}
 use Rattle.gw_ctx.specs.declared.pairs.Pair.{Pair}
@@ -30,7 +30,4 @@ pub returns-in-Some : goal.returns-in-Some
 returns-in-Some c = (left c).1 ∙ ap (λ (l : List Link). links_without c.args.name.now l) c.self.view_is
 
 pub returns-in_default : goal.returns-in_default
-returns-in_default c =
-    let names : List (List ℕ) = c.self.inside.names.items in let pairs : List Pair = c.self.inside.pairs.items in
-    let at : position (bytes_eq c.args.name.now) names ≡ None = ap (λ (l : List (List ℕ)). position (bytes_eq c.args.name.now) l) (sym c.deref.ensures.value) ∙ sym c.place_of.ensures ∙ c.in_default.is in
-    sym c.self.view_is ∙ sym (without_none names pairs c.self.invariant c.args.name.now at) ∙ ap (λ (l : List Link). links_without c.args.name.now l) c.self.view_is
+returns-in_default c = grind (arith, without_none)

@@ -2,15 +2,8 @@ use Rattle.std.proofs.Common.{Ok, subst}
 use Rattle.gw_term.specs.Applies.{IsMerged}
 use Rattle.gw_term.specs.declared.merger.Merger.{Merger}
 use Rattle.gw_term.proofs.Gathering.{merged_is}
-use Rattle.gw_term.proofs.MadeOnce.{made_by}
 use Rattle.gw_term.proofs.merger.Merger.merged.Goals.{then-is_none+in_ok-by+in-Some-1, then-is_none+in_ok-by+in-None-1, else-is_none}
 use Rattle.gw_term.proofs.merger.Merger.merged.Goals as goal
-
-pub keep-requires : goal.keep-requires
-keep-requires c =
-    let self = c.if-is_none.self in
-    let sent = c.in-Some-gathered.sent in
-    made_by self.rules.now self.descriptors.now sent c.args.old.now c.in_ok-applied-2.applied (self.sends sent c.in-Some-gathered.is) c.in_ok-applied-2.ensures
 
 pub returns-clause-merged : goal.returns-clause-merged
 returns-clause-merged c =
