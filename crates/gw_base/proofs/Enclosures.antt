@@ -38,20 +38,3 @@ parts_of c P Q text before behind free e off both =
     ap (λ t. both.front ++ t) (sym (inner.split ∙ ap (λ t. t ++ inner.back) inner.first)) ∙ sym both.split ∙ e in
     let same = split_once c both.front before inner.back behind whole (free both.front both.first) off in
     (subst P same.0 both.first, subst Q same.1 inner.second)
-
--- there is none without the byte
-pub none_of : (c : ℕ) (P Q : List ℕ → Type 0) (text : List ℕ) → list_any (λ z. z == c) text ≡ false → (P ▹ IsText (c ∷ []) ▹ Q) text → ⊥
-none_of c P Q text off both = none_in c both.front both.second.back text (both.split ∙ ap (λ t. both.front ++ t) (both.second.split ∙ ap (λ t. t ++ both.second.back) both.second.first)) off
-  where
-    none_in : (c : ℕ) (before behind text : List ℕ) → text ≡ before ++ c ∷ behind → list_any (λ z. z == c) text ≡ false → ⊥
-    none_in c [] behind [] e h = cc
-    none_in c [] behind (t ∷ ts) e h =
-        let same : t ≡ c = cc in
-        let off = neither (t == c) (list_any (λ z. z == c) ts) h in
-        let clash : true ≡ false = sym (eq-eqb t c same) ∙ off.0 in
-        cc
-    none_in c (b ∷ bs) behind [] e h = cc
-    none_in c (b ∷ bs) behind (t ∷ ts) e h =
-        let rest : ts ≡ bs ++ c ∷ behind = cc in
-        let off = neither (t == c) (list_any (λ z. z == c) ts) h in
-        none_in c bs behind ts rest off.1

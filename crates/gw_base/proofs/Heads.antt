@@ -54,11 +54,7 @@ cmp_same : (m n : ℕ) → m ≡ n → nat_cmp m n ≡ Equal
 cmp_same m n h = by_ranked (m < n) (m ≡ n) (n < m) (nat_cmp m n) (ranked m n (nat_cmp m n) refl) (λ o less. absurd (omega (arith, h, less))) (λ o same. o) (λ o more. absurd (omega (arith, h, more)))
 
 cmp_suc : (m n : ℕ) → nat_cmp m n ≡ nat_cmp (suc m) (suc n)
-cmp_suc m n =
-    by_ranked (m < n) (m ≡ n) (n < m) (nat_cmp m n) (ranked m n (nat_cmp m n) refl)
-    (λ o less. o ∙ sym (cmp_less (suc m) (suc n) (omega (arith, less))))
-    (λ o same. o ∙ sym (cmp_same (suc m) (suc n) (omega (arith, same))))
-    (λ o more. o ∙ sym (cmp_more (suc m) (suc n) (omega (arith, more))))
+cmp_suc m n = grind arith
 
 -- of texts that have no more bytes than their heads tell of, and the same head, the shorter comes first
 pub same_head : (k : ℕ) (xs ys : List ℕ) → AreBytes xs → AreBytes ys → length xs ≤ k → length ys ≤ k → head_of k xs ≡ head_of k ys → slice_cmp nat_cmp xs ys ≡ nat_cmp (length xs) (length ys)

@@ -1,11 +1,11 @@
 -- A text of the form of a TerminationID has one class.
-use Rattle.std.proofs.Common.{◌≡◌, inl, inr, ℕ, length, length-append, Bool, true, false, ◌==◌, ◌-◌, ◌||◌, List, [], ◌∷◌, ◌++◌, map, take, refl, ap, sym, ◌∙◌, arith}
+use Rattle.std.proofs.Common.{◌≡◌, inl, inr, ℕ, length, length-append, Bool, true, false, ◌-◌, List, [], ◌∷◌, map, take, refl, ap, sym, ◌∙◌, arith}
 use Rattle.std.specs.Prelude.{codes}
 use Rattle.std.specs.Char.{to_ascii_lowercase}
 use Rattle.std.specs.List.{list_any}
 use Rattle.std.proofs.lemmas.List.{take_at}
 use Rattle.std.proofs.lemmas.List.Folds.{list_any-append}
-use Rattle.std.proofs.lemmas.Bool.{or_cases, or_left, or_right, eqb-true}
+use Rattle.std.proofs.lemmas.Bool.{or_cases, or_left, or_right}
 use Rattle.gw_base.specs.Bytes.{byte, is_one_of}
 use Rattle.gw_base.specs.Wildcards.{is_wildcard_byte, IsRoot, IsUnder}
 use Rattle.gw_base.specs.TermRefs.{IsChoose, IsClass}
@@ -15,14 +15,7 @@ use Rattle.gw_base.specs.declared.term_ref.TermRef.TheVariants.{Root, All, Choos
 -- ---- wildcards
 
 lower_wildcard : (c : ℕ) → is_wildcard_byte c ≡ true → is_wildcard_byte (to_ascii_lowercase c) ≡ true
-lower_wildcard c h =
-    elim (or_cases (byte (codes "*") == c) (byte (codes "$") == c || false) h) [
-      | inl e ↦ ap (λ (x : ℕ). is_wildcard_byte (to_ascii_lowercase x)) (sym (eqb-true _ c e))
-      | inr o ↦ elim (or_cases (byte (codes "$") == c) false o) [
-        | inl e ↦ ap (λ (x : ℕ). is_wildcard_byte (to_ascii_lowercase x)) (sym (eqb-true _ c e))
-        | inr e ↦ absurd cc
-      ]
-    ]
+lower_wildcard c h = grind arith
 
 lower_wild : (text : List ℕ) → list_any is_wildcard_byte text ≡ true → list_any is_wildcard_byte (map to_ascii_lowercase text) ≡ true
 lower_wild [] h = absurd cc
@@ -42,11 +35,7 @@ all_wild : (text : List ℕ) → text ≡ codes "*" → list_any is_wildcard_byt
 all_wild text e = ap (list_any is_wildcard_byte) e
 
 choose_wild : (text : List ℕ) → IsChoose text → list_any is_wildcard_byte text ≡ true
-choose_wild text h =
-    elim h [
-      | inl e ↦ ap (list_any is_wildcard_byte) e
-      | inr e ↦ ap (list_any is_wildcard_byte) e
-    ]
+choose_wild text h = grind arith
 
 star : ℕ → Bool
 star c = is_one_of (codes "*") c
@@ -61,11 +50,7 @@ under_wild prefix text h = under_has is_wildcard_byte prefix text h refl
 -- ---- no two classes have a text in common
 
 all_not_choose : (text : List ℕ) → text ≡ codes "*" → ¬ IsChoose text
-all_not_choose text e c =
-    elim c [
-      | inl d ↦ let clash : codes "*" ≡ codes "$" = sym e ∙ d in absurd cc
-      | inr d ↦ let clash : codes "*" ≡ codes "RTP/$" = sym e ∙ d in absurd cc
-    ]
+all_not_choose text e c = grind arith
 
 under_not_all : (prefix text : List ℕ) → IsUnder prefix text → ¬ (text ≡ codes "*")
 under_not_all prefix text h e = absurd (let some = h.name.some in omega (arith, ap length h.split, length-append prefix (codes "*"), ap length e))
@@ -88,9 +73,7 @@ abbrev front_of : List ℕ → List ℕ
 front_of text = take (length text - 1) text
 
 under_front : (prefix text : List ℕ) → IsUnder prefix text → front_of text ≡ prefix
-under_front prefix text h =
-    let n : length (prefix ++ codes "*") - 1 ≡ length prefix = omega (arith, length-append prefix (codes "*")) in
-    ap front_of h.split ∙ take_at prefix (codes "*") (length (prefix ++ codes "*") - 1) (sym n)
+under_front prefix text h = grind (arith, length-append, take_at)
 
 one_front : (p q text : List ℕ) → IsUnder p text → IsUnder q text → p ≡ q
 one_front p q text h k = sym (under_front p text h) ∙ under_front q text k

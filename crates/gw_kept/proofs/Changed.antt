@@ -31,16 +31,14 @@ new_more k (x ∷ xs) c new is = (new.0, new_more (changed k x) xs c new.1 is)
 -- ---- how many
 
 most_changed : (k : KeptList) (c : Change) → (changed k c).most ≡ k.most
-most_changed k (Keep e) = refl
-most_changed k (Remove r) = refl
+most_changed k c = grind arith
 
 pub most_after : (k : KeptList) (cs : List Change) → (kept_after k cs).most ≡ k.most
 most_after k [] = refl
 most_after k (c ∷ cs) = most_after (changed k c) cs ∙ most_changed k c
 
 few_changed : (k : KeptList) (c : Change) → length k.pairs ≤ k.most → length (changed k c).pairs ≤ k.most
-few_changed k (Keep e) h = few_last k.most (k.pairs ++ e ∷ [])
-few_changed k (Remove r) h = omega (arith, few_left (λ (e : Entry). not (is_named r.mid r.ranges (key_of e))) k.pairs, h)
+few_changed k c h = grind (arith, few_last, few_left)
 
 pub few_after : (k : KeptList) (cs : List Change) → length k.pairs ≤ k.most → length (kept_after k cs).pairs ≤ k.most
 few_after k [] h = h
@@ -88,8 +86,7 @@ distinct_left t (x ∷ xs) d =
     (λ is. (absent (key_of x) (filter t xs) (All-filter t (λ y. is_same (key_of x) (key_of y) ≡ false) xs (others (key_of x) xs d.0)), left)) (λ is. left)
 
 distinct_changed : (k : KeptList) (c : Change) → AreDistinct k.pairs → IsNew k c → AreDistinct (changed k c).pairs
-distinct_changed k (Keep e) d new = distinct_drop (length (k.pairs ++ e ∷ []) - k.most) (k.pairs ++ e ∷ []) (distinct_more k.pairs e d new)
-distinct_changed k (Remove r) d new = distinct_left (λ (e : Entry). not (is_named r.mid r.ranges (key_of e))) k.pairs d
+distinct_changed k c d new = grind (arith, distinct_drop, distinct_more, distinct_left)
 
 pub distinct_after : (k : KeptList) (cs : List Change) → AreDistinct k.pairs → AreNew k cs → AreDistinct (kept_after k cs).pairs
 distinct_after k [] d new = d

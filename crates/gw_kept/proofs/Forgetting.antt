@@ -1,5 +1,6 @@
 -- What ranges name, range by range, and what is left of a row without it.
-use Rattle.std.proofs.Common.{◌≡◌, ℕ, zero, suc, ◌+◌, ◌<◌, ◌≤◌, ◌&&◌, ◌||◌, not, Bool, true, false, cond, bytes_eq, List, [], ◌∷◌, ◌++◌, map, length, take, get_or, Option, Some, None, refl, ap, sym, ◌∙◌, arith}
+use Rattle.std.proofs.lemmas.Grind.{common_steps}
+use Rattle.std.proofs.Common.{◌≡◌, ℕ, suc, ◌+◌, ◌<◌, ◌≤◌, ◌&&◌, ◌||◌, not, Bool, false, cond, bytes_eq, List, [], ◌∷◌, ◌++◌, map, length, take, get_or, Option, Some, None, refl, ap, sym, ◌∙◌, arith}
 use Rattle.std.proofs.lemmas.List.{take_more}
 use Rattle.std.specs.List.{filter}
 use Rattle.std.specs.Option.{option_map}
@@ -7,20 +8,18 @@ use Rattle.gw_msg.specs.declared.message.AckRange.{AckRange}
 use Rattle.gw_kept.specs.declared.entry.Entry.{Entry}
 use Rattle.gw_kept.specs.declared.entry.RequestKey.{RequestKey}
 use Rattle.gw_kept.specs.Pairs.{key_of}
-use Rattle.gw_kept.specs.Forgotten.{is_within, is_acknowledged, is_named}
+use Rattle.gw_kept.specs.Forgotten.{is_acknowledged, is_named}
 use Rattle.gw_kept.specs.Rows.{present, keys_in, left_of}
 use Rattle.gw_kept.proofs.Filters.{few_left}
 
 -- ---- one range more
 
 or_assoc : (a b c : Bool) → (a || (b || c)) ≡ ((a || b) || c)
-or_assoc true b c = refl
-or_assoc false b c = refl
+or_assoc a b c = grind arith
 
 acknowledged_more : (id : ℕ) (ranges : List AckRange) (range : AckRange) → is_acknowledged id (ranges ++ range ∷ []) ≡ (is_acknowledged id ranges || is_acknowledged id (range ∷ []))
 acknowledged_more id [] range = refl
-acknowledged_more id (r ∷ rs) range =
-    ap (λ (b : Bool). is_within id r || b) (acknowledged_more id rs range) ∙ or_assoc (is_within id r) (is_acknowledged id rs) (is_acknowledged id (range ∷ []))
+acknowledged_more id (r ∷ rs) range = grind (arith, acknowledged_more id rs range, or_assoc)
 
 named_more : (mid : List ℕ) (ranges : List AckRange) (range : AckRange) (key : RequestKey) → is_named mid (ranges ++ range ∷ []) key ≡ (is_named mid ranges key || is_named mid (range ∷ []) key)
 named_more mid ranges range key = grind (arith, acknowledged_more)
@@ -29,8 +28,7 @@ pub named_next : (mid : List ℕ) (ranges : List AckRange) (i : ℕ) (range : Ac
 named_next mid ranges i range key l read = grind (arith, take_more, named_more)
 
 and_false : (a : Bool) → (a && false) ≡ false
-and_false true = refl
-and_false false = refl
+and_false a = grind arith
 
 pub named_by_none : (mid : List ℕ) (key : RequestKey) → is_named mid [] key ≡ false
 named_by_none mid key = and_false (bytes_eq key.mid mid)
@@ -38,8 +36,7 @@ named_by_none mid key = and_false (bytes_eq key.mid mid)
 -- ---- what is left, place by place
 
 left_step : (a : Bool) (mid : List ℕ) (range : AckRange) (e : Entry) → left_of mid (range ∷ []) (cond a None (Some e)) ≡ cond (a || is_named mid (range ∷ []) (key_of e)) None (Some e)
-left_step true mid range e = refl
-left_step false mid range e = refl
+left_step a mid range e = grind arith
 
 left_two : (mid : List ℕ) (ranges : List AckRange) (i : ℕ) (range : AckRange) (o : Option Entry) → i < length ranges → range ≡ get_or ranges i range → left_of mid (range ∷ []) (left_of mid (take i ranges) o) ≡ left_of mid (take (i + 1) ranges) o
 left_two mid ranges i range None l read = refl
@@ -49,9 +46,7 @@ left_two mid ranges i range (Some e) l read =
 pub left_more : (mid : List ℕ) (ranges : List AckRange) (i : ℕ) (range : AckRange) (row : List (Option Entry)) → i < length ranges → range ≡ get_or ranges i range
     → map (left_of mid (range ∷ [])) (map (left_of mid (take i ranges)) row) ≡ map (left_of mid (take (i + 1) ranges)) row
 left_more mid ranges i range [] l read = refl
-left_more mid ranges i range (o ∷ os) l read =
-    ap (λ (p : Option Entry). p ∷ map (left_of mid (range ∷ [])) (map (left_of mid (take i ranges)) os)) (left_two mid ranges i range o l read)
-    ∙ ap (λ (r : List (Option Entry)). left_of mid (take (i + 1) ranges) o ∷ r) (left_more mid ranges i range os l read)
+left_more mid ranges i range (o ∷ os) l read = grind (arith, left_more mid ranges i range os l read, left_two)
 
 pub left_same : (mid : List ℕ) (ranges : List AckRange) (row : List (Option Entry)) → ((p : ℕ) (e : Entry) → get_or row p None ≡ Some e → is_named mid ranges (key_of e) ≡ false) → map (left_of mid ranges) row ≡ row
 left_same mid ranges [] h = refl
@@ -63,8 +58,7 @@ pub left_by_none : (mid : List ℕ) (row : List (Option Entry)) → map (left_of
 left_by_none mid row = left_same mid [] row (λ p e at. named_by_none mid (key_of e))
 
 present_step : (b : Bool) (e : Entry) (row : List (Option Entry)) (es : List Entry) → present row ≡ es → present (cond b None (Some e) ∷ row) ≡ cond (not b) (e ∷ es) es
-present_step true e row es h = h
-present_step false e row es h = ap (λ (l : List Entry). e ∷ l) h
+present_step b e row es h = grind arith
 
 pub present_left : (mid : List ℕ) (ranges : List AckRange) (row : List (Option Entry)) → present (map (left_of mid ranges) row) ≡ filter (λ e. not (is_named mid ranges (key_of e))) (present row)
 present_left mid ranges [] = refl
@@ -75,6 +69,4 @@ pub few_left_of : (mid : List ℕ) (ranges : List AckRange) (row : List (Option 
 few_left_of mid ranges row = omega (arith, ap length (present_left mid ranges row), few_left (λ (e : Entry). not (is_named mid ranges (key_of e))) (present row))
 
 pub keys_get : (row : List (Option Entry)) (p : ℕ) → get_or (keys_in row) p None ≡ option_map key_of (get_or row p None)
-keys_get [] p = refl
-keys_get (o ∷ os) zero = refl
-keys_get (o ∷ os) (suc p) = keys_get os p
+keys_get row p = grind (arith, common_steps)

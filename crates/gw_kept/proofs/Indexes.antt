@@ -33,18 +33,14 @@ has_key q (point.Ack r) = false
 has_key q point.Nothing = false
 
 requested_step : (q : RequestKey) (x : Point) (xs : List Point) → is_requested q (x ∷ xs) ≡ (has_key q x || is_requested q xs)
-requested_step q (point.Request k) xs = refl
-requested_step q (point.Ack r) xs = refl
-requested_step q point.Nothing xs = refl
+requested_step q x xs = grind arith
 
 pub requested_more : (q : RequestKey) (xs : List Point) (i : ℕ) (x : Point) → i < length xs → x ≡ get_or xs i x → is_requested q (take (i + 1) xs) ≡ (is_requested q (take i xs) || has_key q x)
 requested_more q xs i x h is =
     ap (is_requested q) (take_more xs i x h) ∙ or_push (is_requested q) (has_key q) refl (requested_step q) (take i xs) (get_or xs i x) ∙ ap (λ (y : Point). is_requested q (take i xs) || has_key q y) (sym is)
 
 pub no_request : (q : RequestKey) (x : Point) → ((k : RequestKey) → x ≡ point.Request k → ⊥) → has_key q x ≡ false
-no_request q (point.Request k) f = absurd (f k refl)
-no_request q (point.Ack r) f = refl
-no_request q point.Nothing f = refl
+no_request q x f = grind arith
 
 pub requested_here : (xs : List Point) (i : ℕ) (x : Point) → i < length xs → x ≡ get_or xs i x → IsRequested x xs
 requested_here xs i (point.Request k) h is = or_at (is_requested k) (has_key k) refl (requested_step k) xs i (point.Request k) h (ap (has_key k) (sym is) ∙ same_itself k)
@@ -53,14 +49,9 @@ requested_here xs i point.Nothing h is = tt
 
 -- ---- the kept place
 
-none_either : (t : Bool) → ◌≡◌ {A = Option ℕ} None (cond t None None)
-none_either true = refl
-none_either false = refl
-
 -- where nothing was removed, a key's last pair is kept if it is one of the last so many
 pub kept_by_place : (most : ℕ) (s : Standing) (key : RequestKey) (o : Option ℕ) → s.kept ≡ keep_last most s.pairs → last_place key s.pairs ≡ o → kept_at o key (length s.pairs - most) None ≡ cond (has_pair key s.kept) o None
-kept_by_place most s key None kept at = none_either (has_pair key s.kept)
-kept_by_place most s key (Some p) kept at = ap (λ (t : Bool). cond t (Some p) None) (among_last key (length s.pairs - most) s.pairs p at ∙ ap (has_pair key) (sym kept))
+kept_by_place most s key o kept at = grind (arith, among_last)
 
 -- ---- a place for each key that is requested
 
@@ -112,9 +103,7 @@ no_key_more old pairs xs i x h is none f q =
 -- ---- what the index says of a key
 
 kept_by : (left : Option Gapped) (most : ℕ) (s : Standing) (key : RequestKey) (o : Option ℕ) → AreLeft most left s → last_place key s.pairs ≡ o → kept_at o key (length s.pairs - most) left ≡ cond (has_pair key s.kept) o None
-kept_by None most s key o left at = kept_by_place most s key o left at
-kept_by (Some g) most s key None left at = none_either (has_pair key s.kept)
-kept_by (Some g) most s key (Some p) left at = ap (λ (l : List RequestKey). cond (has_pair key l) (Some p) None) left.0
+kept_by left most s key o h at = grind (arith, kept_by_place)
 
 -- what is found by the index is the kept place
 pub kept_known : (requested : List Point) (index : Index) (s : Standing) (key : RequestKey) (place kept : Option ℕ) → IsIndex requested index s → is_requested key requested ≡ true → Some place ≡ get key_cmp index.places key

@@ -1,7 +1,6 @@
 -- The last so many of a list, and the item at a place.
 use Rattle.std.proofs.lemmas.Grind.{common_steps}
-use Rattle.std.proofs.Common.{◌≡◌, ℕ, ◌-◌, ◌<◌, ◌≤◌, nat_lt, Bool, true, false, cond, List, [], ◌∷◌, ◌++◌, map, length, Some, None, refl, sym, ◌∙◌, length-drop, arith}
-use Rattle.std.proofs.lemmas.Bool.Decides.{nat_tests}
+use Rattle.std.proofs.Common.{◌≡◌, ℕ, ◌-◌, ◌≤◌, nat_lt, Bool, cond, List, [], ◌∷◌, ◌++◌, map, length, Some, None, ◌∙◌, length-drop, arith}
 use Rattle.std.proofs.lemmas.List.{drop-map}
 use Rattle.std.proofs.lemmas.Option.{slice_get_within}
 use Rattle.std.specs.List.{slice_get}
@@ -33,7 +32,4 @@ last_kept most es e some = grind (arith, common_steps)
 
 -- the one that is dropped then
 pub last_dropped : (t : Bool) (most : ℕ) (es : List Entry) (e : Entry) → nat_lt (length es) most ≡ t → 1 ≤ most → cond t None (slice_get es 0) ≡ cond t None (slice_get (es ++ e ∷ []) 0)
-last_dropped true most es e is some = refl
-last_dropped false most es e is some =
-    let full : 0 < length es = grind (arith, nat_tests) in
-    sym (slice_get-append_left es (e ∷ []) 0 full)
+last_dropped t most es e is some = grind (arith, slice_get-append_left)

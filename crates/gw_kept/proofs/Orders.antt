@@ -104,9 +104,7 @@ searched keys first numbers key (Err i) o range parted =
 -- ---- where a key comes behind the last one
 
 less_is : (r : Ordering) → is_lt r ≡ true → r ≡ Less
-less_is Less e = refl
-less_is Equal e = absurd cc
-less_is Greater e = absurd cc
+less_is r e = grind arith
 
 pub behind_all : (keys : List (Option RequestKey)) (first : ℕ) (numbers : List ℕ) (key : RequestKey) (i number : ℕ) → (o : IsOrder keys first numbers) → i + 1 ≡ length numbers → number ≡ get_or numbers i number
     → is_lt (key_cmp (key_in keys (place_of first number) key) key) ≡ true → IsStand keys o.places key (Err (length numbers))
@@ -247,8 +245,7 @@ order_behind keys first next numbers o gap is =
 -- ---- the foremost pair leaves
 
 same_behind : (keys : List (Option RequestKey)) → drop 1 (set keys 0 None) ≡ drop 1 keys
-same_behind [] = refl
-same_behind (k ∷ ks) = refl
+same_behind keys = grind arith
 
 pub front_left : (keys : List (Option RequestKey)) (first next : ℕ) (numbers : List ℕ) → IsOrder (set keys 0 None) first numbers → next ≡ (first + 1) % 2 ^ 16 → IsOrder (drop 1 keys) next numbers
 front_left keys first next numbers o is = grind (arith, same_behind, order_behind)

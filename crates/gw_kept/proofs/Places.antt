@@ -1,5 +1,5 @@
 -- The place of a key's last pair: among the last so many, and with one more pair.
-use Rattle.std.proofs.Common.{◌≡◌, ℕ, zero, suc, ◌+◌, nat_le, Bool, true, false, cond, List, [], ◌∷◌, ◌++◌, length, drop, Option, Some, None, refl, ap, sym, ◌∙◌, add-one, arith}
+use Rattle.std.proofs.Common.{◌≡◌, ℕ, zero, suc, ◌+◌, nat_le, Bool, true, false, cond, List, [], ◌∷◌, ◌++◌, length, drop, Option, Some, None, refl, ap, sym, ◌∙◌, arith}
 use Rattle.std.specs.Ordering.{is_eq}
 use Rattle.std.specs.List.{All}
 use Rattle.std.specs.Option.{is_some}
@@ -16,9 +16,7 @@ use Rattle.gw_kept.specs.Order.{key_cmp}
 -- ---- a key that no pair has
 
 none_parts : (o : Option ℕ) (t : Bool) → or_here 1 o (cond t (Some 0) None) ≡ None → (t ≡ false) × (o ≡ None)
-none_parts (Some q) t e = absurd cc
-none_parts None true e = absurd cc
-none_parts None false e = (refl, refl)
+none_parts o t e = grind arith
 
 pub none_behind : (key k : RequestKey) (ks : List RequestKey) → last_place key (k ∷ ks) ≡ None → (is_same k key ≡ false) × (last_place key ks ≡ None)
 none_behind key k ks e = none_parts (last_place key ks) (is_same k key) e
@@ -56,14 +54,11 @@ among_last key (suc d) (k ∷ ks) p e =
 -- ---- with one more pair
 
 step : (same t : Bool) (n : ℕ) (o h : Option ℕ) → or_here 1 (cond same (Some n) o) h ≡ cond same (Some (suc n)) (or_here 1 o h)
-step true t n o h = ap (λ (m : ℕ). Some m) (add-one n)
-step false t n o h = refl
+step same t n o h = grind arith
 
 pub one_more : (key k : RequestKey) (pairs : List RequestKey) → last_place key (pairs ++ k ∷ []) ≡ cond (is_same k key) (Some (length pairs)) (last_place key pairs)
 one_more key k [] = refl
-one_more key k (p ∷ ps) =
-    let here : Option ℕ = cond (is_same p key) (Some 0) None in
-    ap (λ (o : Option ℕ). or_here 1 o here) (one_more key k ps) ∙ step (is_same k key) true (length ps) (last_place key ps) here
+one_more key k (p ∷ ps) = grind (arith, one_more key k ps, step)
 
 -- ---- keys that tie in the order are the same
 
@@ -86,5 +81,4 @@ other_key a b f = false_from_ne_true (is_same a b) (λ e. f (same_key a b e))
 
 -- a key that the first pair does not have, nor any behind it
 pub absent_head : (t : Bool) (b : List ℕ) (rest : Option (List ℕ)) → cond t (Some b) rest ≡ None → (t ≡ false) × (rest ≡ None)
-absent_head true b rest e = absurd cc
-absent_head false b rest e = (refl, e)
+absent_head t b rest e = grind arith

@@ -1,9 +1,8 @@
 -- What the classes mean for the list that is kept meanwhile.
 use Rattle.std.proofs.lemmas.Grind.{common_steps}
-use Rattle.std.proofs.Common.{◌≡◌, ℕ, zero, suc, ◌+◌, ◌-◌, ◌<◌, ◌≤◌, nat_lt, not, Bool, true, false, cond, List, [], ◌∷◌, ◌++◌, map, length, get_or, Option, Some, None, refl, ap, sym, subst, ◌∙◌, add-one, append_assoc, length-append, arith, rules}
+use Rattle.std.proofs.Common.{◌≡◌, ℕ, zero, suc, ◌+◌, ◌-◌, ◌<◌, ◌≤◌, nat_lt, not, Bool, false, cond, List, [], ◌∷◌, ◌++◌, map, length, get_or, Option, Some, None, refl, ap, sym, subst, ◌∙◌, add-one, append_assoc, length-append, arith, rules}
 use Rattle.std.proofs.lemmas.List.{append-nil, length-map, map-append}
 use Rattle.std.proofs.lemmas.List.Elements.{All-append, All-cons, All-nil, All-drop, All-filter}
-use Rattle.std.proofs.lemmas.Bool.{ltb-true, ltb-false}
 use Rattle.std.specs.List.{All, slice_get}
 use Rattle.std.specs.Option.{option_map, is_some}
 use Rattle.circular_buffer.proofs.Places.{slice_get-append_left, slice_get-append_right}
@@ -16,7 +15,7 @@ use Rattle.gw_kept.specs.declared.class.Source.TheVariants as source
 use Rattle.gw_kept.specs.Pairs.{KeptList, key_of, is_same, bytes_for, bytes_at, AreDistinct}
 use Rattle.gw_kept.specs.Forgotten.{is_named}
 use Rattle.gw_kept.specs.Changes.{Change, Keep, Remove, changed, kept_after, entries_in, IsNew, AreNew}
-use Rattle.gw_kept.specs.Classes.{or_here, last_place, source_at, class_of, most_new}
+use Rattle.gw_kept.specs.Classes.{or_here, last_place, class_of, most_new}
 use Rattle.gw_kept.specs.Repeats.{class_after, bytes_of}
 use Rattle.gw_kept.proofs.Places.{one_more, same_itself}
 use Rattle.gw_kept.proofs.Found.{not_kept, found_at, bytes_found, no_place}
@@ -72,14 +71,11 @@ last_changed all k (Remove r) h new =
     (All-filter (λ (e : Entry). not (is_named r.mid r.ranges (key_of e))) (IsLast all) k.pairs h)
 
 entries-cons : (c : Change) (cs : List Change) → entries_in (c ∷ []) ++ entries_in cs ≡ entries_in (c ∷ cs)
-entries-cons (Keep e) cs = refl
-entries-cons (Remove r) cs = refl
+entries-cons c cs = grind arith
 
 last_after : (all : List Entry) (k : KeptList) (cs : List Change) → All (IsLast all) k.pairs → AreNew k cs → All (IsLast (all ++ entries_in cs)) (kept_after k cs).pairs
 last_after all k [] h new = subst (λ (l : List Entry). All (IsLast l) k.pairs) (sym (append-nil all)) h
-last_after all k (c ∷ cs) h new =
-    subst (λ (l : List Entry). All (IsLast l) (kept_after (changed k c) cs).pairs) (append_assoc all (entries_in (c ∷ [])) (entries_in cs) ∙ ap (λ (l : List Entry). all ++ l) (entries-cons c cs))
-    (last_after (all ++ entries_in (c ∷ [])) (changed k c) cs (last_changed all k c h new.0) new.1)
+last_after all k (c ∷ cs) h new = grind (arith, last_after (all ++ entries_in (c ∷ [])) (changed k c) cs (last_changed all k c h new.0) new.1, append_assoc, entries-cons, last_changed)
 
 -- ---- a key that is kept
 
@@ -121,39 +117,16 @@ kept_at_point k cs key = last_place key (map key_of (kept_after k cs).pairs)
 abbrev among_all : KeptList → List Change → RequestKey → Option ℕ
 among_all k cs key = last_place key (map key_of (k.pairs ++ entries_in cs))
 
-class_kept : (k : KeptList) (cs : List Change) (key : RequestKey) (q : ℕ) (h : IsKept k cs key) → kept_at_point k cs key ≡ Some q → class_after k cs key ≡ Repeat (source_at (length k.pairs) h.place)
-class_kept k cs key q h at = grind (arith, common_steps)
-
-class_other : (k : KeptList) (cs : List Change) (key : RequestKey) → kept_at_point k cs key ≡ None → class_after k cs key ≡ class_of (length k.pairs) (map key_of (k.pairs ++ entries_in cs)) None
-class_other k cs key at = ap (λ (o : Option ℕ). class_by k cs o (among_all k cs key)) at
-
-no_repeat : (b : Bool) (s : Source) → cond b New Over ≡ Repeat s → ⊥
-no_repeat true s e = cc
-no_repeat false s e = cc
-
 -- ---- a repeat
 
 sourced : (t : Bool) (k : KeptList) (es : List Entry) (place : ℕ) (e : Entry) → nat_lt place (length k.pairs) ≡ t → slice_get (k.pairs ++ es) place ≡ Some e → bytes_of (cond t (source.Kept place) (source.Place (place - length k.pairs))) k es ≡ Some e.bytes
-sourced true k es place e is at =
-    ap (option_map (λ (x : Entry). x.bytes)) (sym (slice_get-append_left k.pairs es place (ltb-true place (length k.pairs) is)) ∙ at)
-sourced false k es place e is at =
-    let more : length k.pairs ≤ place = ltb-false place (length k.pairs) is in
-    ap (option_map (λ (x : Entry). x.bytes)) (sym (slice_get-append_right k.pairs es place (place - length k.pairs) (omega (arith, more))) ∙ at)
+sourced t k es place e is at = grind (arith, slice_get-append_left, slice_get-append_right)
 
 abbrev HasReply : KeptList → List Change → RequestKey → Source → Type 0
 HasReply k cs key source = (bytes : List ℕ) × (bytes_of source k (entries_in cs) ≡ Some bytes) × (bytes_for key (kept_after k cs).pairs ≡ Some bytes)
 
 replied : (o : Option ℕ) (k : KeptList) (cs : List Change) (key : RequestKey) (source : Source) → AreDistinct k.pairs → AreNew k cs → kept_at_point k cs key ≡ o → class_after k cs key ≡ Repeat source → HasReply k cs key source
-replied (Some q) k cs key source distinct new at e =
-    let h : IsKept k cs key = is_kept k cs key q distinct new at in
-    let both : Repeat (source_at (length k.pairs) h.place) ≡ Repeat source = sym (class_kept k cs key q h at) ∙ e in
-    let is : source_at (length k.pairs) h.place ≡ source = cc in (
-      h.entry.bytes,
-      ap (λ (s : Source). bytes_of s k (entries_in cs)) (sym is) ∙ sourced (nat_lt h.place (length k.pairs)) k (entries_in cs) h.place h.entry refl h.there,
-      h.bytes,
-    )
-replied None k cs key source distinct new at e =
-    absurd (no_repeat (nat_lt (length (map key_of (k.pairs ++ entries_in cs)) - length k.pairs) most_new) source (sym (class_other k cs key at) ∙ e))
+replied o k cs key source distinct new at e = grind (arith, is_kept, sourced)
 
 pub has_reply : (k : KeptList) (cs : List Change) (key : RequestKey) (source : Source) → AreDistinct k.pairs → AreNew k cs → class_after k cs key ≡ Repeat source → HasReply k cs key source
 has_reply k cs key source distinct new e = replied (kept_at_point k cs key) k cs key source distinct new refl e
@@ -163,15 +136,9 @@ has_reply k cs key source distinct new e = replied (kept_at_point k cs key) k cs
 came : (k : KeptList) (es : List Entry) → length (map key_of (k.pairs ++ es)) - length k.pairs ≡ length es
 came k es = omega (arith, length-map (k.pairs ++ es) key_of, length-append k.pairs es)
 
-pub when_new : (n : ℕ) → cond (nat_lt n most_new) New Over ≡ New → n < most_new
-when_new n e = grind arith
-
 -- the key of what is no repeat has no pair
 not_repeat : (o : Option ℕ) (c : Class) (k : KeptList) (cs : List Change) (key : RequestKey) → AreDistinct k.pairs → AreNew k cs → kept_at_point k cs key ≡ o → class_after k cs key ≡ c → ((s : Source) → c ≡ Repeat s → ⊥) → kept_at_point k cs key ≡ None
-not_repeat (Some q) c k cs key distinct new at e other =
-    let h : IsKept k cs key = is_kept k cs key q distinct new at in
-    absurd (other (source_at (length k.pairs) h.place) (sym e ∙ class_kept k cs key q h at))
-not_repeat None c k cs key distinct new at e other = at
+not_repeat o c k cs key distinct new at e other = grind (arith, is_kept)
 
 pub new_is_not_kept : (k : KeptList) (cs : List Change) (key : RequestKey) → AreDistinct k.pairs → AreNew k cs → class_after k cs key ≡ New → (bytes_for key (kept_after k cs).pairs ≡ None) × (length (entries_in cs) < most_new)
 new_is_not_kept k cs key distinct new e = grind (arith, not_repeat, not_kept, came)
@@ -194,8 +161,7 @@ bytes_stay zero (x ∷ xs) more bytes e = e
 bytes_stay (suc place) (x ∷ xs) more bytes e = bytes_stay place xs more bytes e
 
 pub source_stays : (source : Source) (k : KeptList) (es more : List Entry) (bytes : List ℕ) → bytes_of source k es ≡ Some bytes → bytes_of source k (es ++ more) ≡ Some bytes
-source_stays (source.Kept place) k es more bytes e = e
-source_stays (source.Place place) k es more bytes e = bytes_stay place es more bytes e
+source_stays source k es more bytes e = grind (arith, bytes_stay)
 
 -- the reply of the next new request
 pub next_bytes : (es more : List Entry) (e : Entry) → bytes_at (length es) (es ++ e ∷ more) ≡ Some e.bytes

@@ -1,6 +1,6 @@
 -- Requests whose numbers rise: the class of each, and that none comes twice.
 use Rattle.std.proofs.lemmas.Grind.{common_steps}
-use Rattle.std.proofs.Common.{◌≡◌, ℕ, ◌+◌, ◌-◌, ◌<◌, ◌||◌, nat_lt, Bool, true, false, List, [], ◌∷◌, length, drop, get_or, Option, Some, None, refl, ap, sym, arith}
+use Rattle.std.proofs.Common.{◌≡◌, ℕ, ◌+◌, ◌-◌, ◌<◌, ◌||◌, nat_lt, Bool, true, false, List, [], ◌∷◌, length, drop, get_or, Option, Some, None, refl, ap, arith}
 use Rattle.std.proofs.lemmas.Bool.{and_parts, ltb-true}
 use Rattle.gw_kept.specs.declared.class.Class.{Class}
 use Rattle.gw_kept.specs.declared.class.Class.TheVariants.{New, Nothing}
@@ -13,7 +13,6 @@ use Rattle.gw_kept.specs.Pairs.{KeptList, IsBounded, is_same}
 use Rattle.gw_kept.specs.Rises.{do_numbers_rise, IsApart, IsTurn}
 use Rattle.gw_kept.proofs.Places.{one_more, same_itself, same_key}
 use Rattle.gw_kept.proofs.Indexes.{kept_by_place}
-use Rattle.gw_kept.proofs.Repeats.{when_new}
 
 -- ---- a key that no new request has
 
@@ -53,8 +52,7 @@ pub passes_old : (k : KeptList) (s : Standing) (p : Point) (key : RequestKey) (r
 passes_old k s p key rest total c is not found h = grind (arith, common_steps)
 
 class_new : (before : ℕ) (o : Option ℕ) (all : List RequestKey) → New ≡ class_of before all o → length all - before < most_new
-class_new before (Some place) all e = absurd cc
-class_new before None all e = when_new (length all - before) (sym e)
+class_new before o all e = grind arith
 
 pub passes_new : (k : KeptList) (s : Standing) (p : Point) (key : RequestKey) (rest : List Point) (total next : ℕ) → p ≡ point.Request key → New ≡ class_of (length k.pairs) s.pairs (kept_place key s) → next ≡ total + 1 → IsTurn k s (p ∷ rest) total
     → (New ≡ class_at (length k.pairs) (seen false p) s) × IsTurn k (behind k.most (length k.pairs) (seen false p) s) rest next

@@ -100,8 +100,7 @@ keys_some (e ∷ es) = ap (λ (l : List (Option RequestKey)). Some (key_of e) �
 -- ---- the key at a place
 
 same_default : (o : Option RequestKey) (d e : RequestKey) → is_some o ≡ true → unwrap_or o d ≡ unwrap_or o e
-same_default None d e h = absurd cc
-same_default (Some k) d e h = refl
+same_default o d e h = grind arith
 
 pub key_default : (keys : List (Option RequestKey)) (p : ℕ) (d e : RequestKey) → IsTaken keys p → key_in keys p d ≡ key_in keys p e
 key_default keys p d e h = same_default (get_or keys p None) d e h
@@ -115,10 +114,7 @@ nowhere_none key (None ∷ es) h = nowhere_none key es (λ p. h (suc p))
 
 pub none_nowhere : (key : RequestKey) (row : List (Option Entry)) → bytes_for key (present row) ≡ None → IsFound (keys_in row) key None
 none_nowhere key [] none p e = absurd cc
-none_nowhere key (Some x ∷ xs) none zero e =
-    let other : is_same key (key_of x) ≡ false = (absent_head (is_same key (key_of x)) x.bytes (bytes_for key (present xs)) none).0 in
-    let same : key ≡ key_of x = cc in
-    both_ways (is_same key (key_of x)) other (ap (is_same key) (sym same) ∙ same_itself key)
+none_nowhere key (Some x ∷ xs) none zero e = grind (arith, absent_head, both_ways, same_itself)
 none_nowhere key (Some x ∷ xs) none (suc p) e = none_nowhere key xs (absent_head (is_same key (key_of x)) x.bytes (bytes_for key (present xs)) none).1 p e
 none_nowhere key (None ∷ xs) none zero e = absurd cc
 none_nowhere key (None ∷ xs) none (suc p) e = none_nowhere key xs none p e
@@ -139,12 +135,10 @@ has_by (Some q) key row is p at = refl
 has_by None key row is p at = absurd (none_nowhere key row (not_kept key (present row) is) p at)
 
 pub has_found : (o : Option ℕ) (key : RequestKey) (row : List (Option Entry)) → IsFound (keys_in row) key o → is_some o ≡ has_pair key (map key_of (present row))
-has_found (Some p) key row at = sym (has_by (last_place key (map key_of (present row))) key row refl p at)
-has_found None key row none = sym (ap is_some (no_place key (present row) (nowhere_none key row none)))
+has_found o key row at = grind (arith, has_by, no_place, nowhere_none)
 
 no_some : (o : Option ℕ) → false ≡ is_some o → o ≡ None
-no_some (Some p) e = absurd cc
-no_some None e = refl
+no_some o e = grind arith
 
 pub has_not : (key : RequestKey) (es : List Entry) → false ≡ has_pair key (map key_of es) → bytes_for key es ≡ None
 has_not key es e = not_kept key es (no_some (last_place key (map key_of es)) e)

@@ -40,8 +40,7 @@ module _ {X : Type 0} where
 
 -- one place more
 rank_step : {X : Type 0} (o : Option X) (xs : List (Option X)) → length (present (xs ++ o ∷ [])) ≡ length (present xs) + cond (is_some o) 1 0
-rank_step (Some x) xs = omega (arith, ap length (present_append xs (Some x ∷ [])), length-append (present xs) (x ∷ []))
-rank_step None xs = omega (arith, ap length (present_append xs (None ∷ [])), length-append (present xs) [])
+rank_step o xs = grind (arith, present_append, length-append)
 
 pub rank_more : {X : Type 0} (xs : List (Option X)) (i : ℕ) → i < length xs → rank xs (i + 1) ≡ rank xs i + cond (is_some (get_or xs i None)) 1 0
 rank_more xs i l = ap (λ ys. length (present ys)) (take_more xs i None l) ∙ rank_step (get_or xs i None) (take i xs)

@@ -41,9 +41,7 @@ end_found keys places key i at d sorted stand within = grind (arith, less_there,
 -- ---- between the first key of a range and its last
 
 between : (r s t : Ordering) (e : Bool) → is_eq r ≡ e → (not (is_lt (ordering_then r s)) && not (is_gt (ordering_then r t))) ≡ (e && (not (is_lt s) && not (is_gt t)))
-between Less s t e h = ap (λ (b : Bool). b && (not (is_lt s) && not (is_gt t))) h
-between Equal s t e h = ap (λ (b : Bool). b && (not (is_lt s) && not (is_gt t))) h
-between Greater s t e h = ap (λ (b : Bool). b && (not (is_lt s) && not (is_gt t))) h
+between r s t e h = grind arith
 
 pub is_span : (keys : List (Option RequestKey)) (places : List ℕ) (mid : List ℕ) (range : AckRange) (start end : ℕ)
     → ((at : ℕ) (d : RequestKey) → at < length places → nat_le start at ≡ not (is_lt (key_cmp (key_there keys places at d) (record { mid = mid; id = range.first }))))

@@ -1,6 +1,6 @@
 -- The contents of an action as a loop reads them: the properties that were read before, and what is still read.
 use Rattle.std.proofs.lemmas.Grind.{common_steps}
-use Rattle.std.proofs.Common.{◌≡◌, ℕ, zero, suc, ◌<◌, true, false, cond, List, [], ◌∷◌, ◌++◌, length, Option, Some, None, Err, refl, ap, sym, ◌∙◌, append_assoc, arith}
+use Rattle.std.proofs.Common.{◌≡◌, ℕ, zero, suc, ◌<◌, true, false, cond, List, [], ◌∷◌, ◌++◌, length, Option, Some, None, Err, ap, sym, ◌∙◌, append_assoc, arith}
 use Rattle.std.proofs.lemmas.List.{append-nil}
 use Rattle.gw_text.specs.Lexical.{comma}
 use Rattle.gw_text.specs.Runs.{begins}
@@ -30,18 +30,15 @@ abbrev one_more : ContextProp → Found → Found
 one_more p o = o >>= λ x. Some (front_of p x.0, x.1)
 
 front_first : (front : List ContextProp) (p : ContextProp) (o : Found) → with_front front (one_more p o) ≡ with_front (front ++ p ∷ []) o
-front_first front p None = refl
-front_first front p (Some x) = ap (λ (ps : List ContextProp). Some ((ps, x.0.1), x.1)) (sym (append_assoc front (p ∷ []) x.0.0))
+front_first front p o = grind (arith, append_assoc)
 
 -- ---- fuel
 
 same_bind : {A B : Type 0} (o : Option A) (f g : A → Option B) → ((x : A) → o ≡ Some x → f x ≡ g x) → (o >>= f) ≡ (o >>= g)
-same_bind None f g h = refl
-same_bind (Some x) f g h = h x refl
+same_bind o f g h = grind arith
 
 same_else : {A B : Type 0} (o : Option A) (f g : A → Option B) (d : Option B) → ((x : A) → o ≡ Some x → f x ≡ g x) → or_else o f d ≡ or_else o g d
-same_else None f g d h = refl
-same_else (Some x) f g d h = h x refl
+same_else o f g d h = grind arith
 
 -- more fuel changes nothing
 enough : (n m : ℕ) (text : List ℕ) → length text < n → length text < m → contents_from n text ≡ contents_from m text

@@ -1,5 +1,6 @@
 -- The readers of what an action asks of its context itself read their forms.
-use Rattle.std.proofs.Common.{◌≡◌, ℕ, List, ◌++◌, Option, Some, None, refl, ap, subst, ◌∙◌, arith, rules}
+use Rattle.std.proofs.lemmas.Grind.{common_steps}
+use Rattle.std.proofs.Common.{◌≡◌, ℕ, List, ◌++◌, Option, Some, refl, ap, ◌∙◌, arith, rules}
 use Rattle.gw_base.specs.Bytes.{is_digit}
 use Rattle.gw_base.specs.Lang.{Both, ◌▹◌}
 use Rattle.gw_base.specs.declared.term_ref.TermRef.{TermRef}
@@ -14,12 +15,11 @@ use Rattle.gw_text.specs.Reader.{Reader, ◌>>=◌, word_as, number_up_to, brace
 use Rattle.gw_text.specs.Tokens.{token_of}
 use Rattle.gw_text.specs.declared.token.Token.{Token}
 use Rattle.gw_text.specs.declared.token.Token.TheVariants as token
-use Rattle.gw_text.proofs.FormLaws.{some_is, BeginsWith, sign_ends, safe_apart, word_solid, number_solid, both_begins, both_ends, with_second}
+use Rattle.gw_text.proofs.FormLaws.{BeginsWith, sign_ends, safe_apart, word_solid, number_solid, both_begins, both_ends, with_second}
 use Rattle.gw_text.proofs.ReaderLaws.{ReadsUp, Same, UpTo, up_as, up_next, up_to, up_then, up_last, up_done, up_shrinks, same_up, skipped_up, up_word, up_number_up_to, BracesUp, up_braced}
 use Rattle.gw_desc.proofs.MediaLaws.{braced_ends, made_of, up_none}
 use Rattle.gw_msg.specs.declared.message.Triple.{Triple}
 use Rattle.gw_msg.specs.declared.message.ContextItem.{ContextItem}
-use Rattle.gw_msg.specs.declared.message.ContextItem.TheVariants as audited
 use Rattle.gw_msg.specs.declared.message.ContextProp.{ContextProp}
 use Rattle.gw_msg.specs.declared.message.ContextProp.TheVariants as property
 use Rattle.gw_msg.specs.Grammar.{SpellsTerm, priority_digits, priority_max, IsPriority, flow_token, SpellsFlow, SpellsTriple, context_item_token, SpellsContextItem, SpellsContextProperty}
@@ -27,22 +27,16 @@ use Rattle.gw_msg.specs.Words.{flow_for, flow_of, context_item_for, context_item
 use Rattle.gw_msg.specs.NameWords.{term_of}
 use Rattle.gw_msg.specs.Reading.{triple_at, context_item_at, priority_at, property_rest, context_property_at}
 use Rattle.gw_msg.proofs.Starts.{small_property, token_fits}
-use Rattle.gw_msg.proofs.Steps.{Done, nothing_more, nothing_behind, behind_sign, no_digit}
+use Rattle.gw_msg.proofs.Steps.{Done, nothing_more, behind_sign, no_digit}
 use Rattle.gw_msg.proofs.WordLaws.{any_token_reads, token_solid, term_reads, term_solid}
 
 -- ---- words
 
 flow_stands : (o : Option Token) (f : Flow) → flow_for o ≡ Some f → o ≡ Some (flow_token f)
-flow_stands (Some token.Bothway) f e = ap (λ (g : Flow). Some (flow_token g)) (some_is flow.Bothway f e)
-flow_stands (Some token.Isolate) f e = ap (λ (g : Flow). Some (flow_token g)) (some_is flow.Isolate f e)
-flow_stands (Some token.Oneway) f e = ap (λ (g : Flow). Some (flow_token g)) (some_is flow.Oneway f e)
-flow_stands (Some _) f e = absurd cc
-flow_stands None f e = absurd cc
+flow_stands o f e = grind arith
 
 flow_again : (f : Flow) → flow_for (Some (flow_token f)) ≡ Some f
-flow_again flow.Bothway = refl
-flow_again flow.Isolate = refl
-flow_again flow.Oneway = refl
+flow_again f = grind arith
 
 flow_reads : ReadsUp (word_as flow_of) SpellsFlow (NoMore is_safe) Same Same
 flow_reads =
@@ -51,16 +45,10 @@ flow_reads =
     (λ f text h. record { word = h.word; stands = ap flow_for h.stands ∙ flow_again f })
 
 context_item_stands : (o : Option Token) (i : ContextItem) → context_item_for o ≡ Some i → o ≡ Some (context_item_token i)
-context_item_stands (Some token.Topology) i e = ap (λ (j : ContextItem). Some (context_item_token j)) (some_is audited.Topology i e)
-context_item_stands (Some token.Priority) i e = ap (λ (j : ContextItem). Some (context_item_token j)) (some_is audited.Priority i e)
-context_item_stands (Some token.Emergency) i e = ap (λ (j : ContextItem). Some (context_item_token j)) (some_is audited.Emergency i e)
-context_item_stands (Some _) i e = absurd cc
-context_item_stands None i e = absurd cc
+context_item_stands o i e = grind arith
 
 context_item_again : (i : ContextItem) → context_item_for (Some (context_item_token i)) ≡ Some i
-context_item_again audited.Topology = refl
-context_item_again audited.Priority = refl
-context_item_again audited.Emergency = refl
+context_item_again i = grind arith
 
 context_item_reads : ReadsUp context_item_at SpellsContextItem (NoMore is_safe) Same Same
 context_item_reads =
@@ -165,17 +153,10 @@ property_rest_ends token.ContextAudit p front rest q n = braced_ends is_safe Spe
 property_rest_ends _ p front rest q n = absurd q
 
 property_to : (t : Token) (p : ContextProp) (text : List ℕ) → Both (IsToken t) (PropertyRest t p) text → SpellsContextProperty p text
-property_to token.Priority p text b = subst (λ (x : ContextProp). SpellsContextProperty x text) b.second.1 (with_second b b.second.2)
-property_to token.Emergency p text b = subst (λ (x : ContextProp). SpellsContextProperty x text) b.second.0 (nothing_behind (IsToken token.Emergency) (Done property.Emergency p) text b b.second.1)
-property_to token.Topology p text b = subst (λ (x : ContextProp). SpellsContextProperty x text) b.second.1 (with_second b b.second.2)
-property_to token.ContextAudit p text b = subst (λ (x : ContextProp). SpellsContextProperty x text) b.second.1 (with_second b b.second.2)
-property_to _ p text b = absurd (b.second)
+property_to t p text b = grind (arith, common_steps)
 
 property_from : (p : ContextProp) (text : List ℕ) → SpellsContextProperty p text → (t : Token) × Both (IsToken t) (PropertyRest t p) text
-property_from (property.Priority n) text b = (token.Priority, with_second b (n, refl, b.second))
-property_from property.Emergency text h = (token.Emergency, nothing_more text h (refl, refl))
-property_from (property.Topology list) text b = (token.Topology, with_second b (list, refl, b.second))
-property_from (property.ContextAudit list) text b = (token.ContextAudit, with_second b (list, refl, b.second))
+property_from p text b = grind (arith, nothing_more)
 
 pub context_property_reads : ReadsUp context_property_at SpellsContextProperty (NoMore is_safe) Same UpTo
 unfolding context_property_at

@@ -1,9 +1,8 @@
 -- The reader of a header reads its form.
 use Rattle.std.proofs.lemmas.Grind.{common_steps}
-use Rattle.std.proofs.Common.{◌≡◌, ◌⊎◌, inl, inr, ℕ, Bool, true, false, ◌==◌, List, [], ◌∷◌, ◌++◌, Some, None, refl, ap, subst, arith}
+use Rattle.std.proofs.Common.{◌≡◌, ◌⊎◌, ℕ, Bool, true, ◌==◌, List, ◌++◌, Some, None, refl, subst, arith}
 use Rattle.std.specs.Prelude.{codes}
 use Rattle.std.specs.Char.{to_ascii_lowercase}
-use Rattle.std.proofs.lemmas.Bool.{eq-eqb}
 use Rattle.gw_base.specs.Bytes.{byte}
 use Rattle.gw_base.specs.Lang.{◌▹◌, IsText}
 use Rattle.gw_base.specs.Bytes.{is_digit}
@@ -14,7 +13,7 @@ use Rattle.gw_text.specs.Sign.{byte_at, prefix_at}
 use Rattle.gw_text.specs.Scans.{sep_at}
 use Rattle.gw_text.specs.Forms.{IsInAnyCase}
 use Rattle.gw_text.specs.Reader.{Reader, ◌>>=◌, found, number_up_to, if_prefix}
-use Rattle.gw_text.proofs.FormLaws.{BeginsWith, both_split, space_bytes, is_solid_by, digit_apart, both_begins, sep_ends, with_second}
+use Rattle.gw_text.proofs.FormLaws.{BeginsWith, both_split, digit_apart, sep_ends, with_second}
 use Rattle.gw_text.proofs.ReaderLaws.{ReadsUp, Same, Skipped, UpTo, Any, up_as, up_skipped, up_then, up_byte, up_space, up_if_prefix, up_number_up_to, up_sep_last}
 use Rattle.gw_msg.specs.Grammar.{version_digits, version_max, IsVersion, IsMegacop, IsHeader}
 use Rattle.gw_msg.specs.Reading.{version_at, header_at}
@@ -64,19 +63,11 @@ short_is_not_long n front rest b = grind (arith, both_split, no_long)
 abbrev is_m : ℕ → Bool
 is_m c = to_ascii_lowercase c == to_ascii_lowercase (byte (codes "M"))
 
-m_solid : (c : ℕ) → is_m c ≡ true → is_solid c ≡ true
-m_solid = is_solid_by is_m (space_bytes (λ c. is_m c ≡ false) refl refl refl refl refl)
-
 long_solid : (text : List ℕ) → IsInAnyCase (codes "MEGACO") text → begins is_solid text ≡ true
-long_solid [] h = absurd cc
-long_solid (c ∷ cs) h = let same : to_ascii_lowercase c ≡ to_ascii_lowercase (byte (codes "M")) = cc in m_solid c (eq-eqb _ _ same)
+long_solid text h = grind arith
 
 first_solid : BeginsWith is_solid (λ n text. Long n text ⊎ Short n text)
-first_solid n text h =
-    elim h [
-      | inl b ↦ both_begins is_solid (IsInAnyCase (codes "MEGACO")) (SlashNumber n) long_solid text b
-      | inr b ↦ both_begins is_solid (IsText (codes "!")) (SlashNumber n) (λ t e. ap (begins is_solid) e) text b
-    ]
+first_solid n text h = grind (arith, common_steps, long_solid)
 
 after_space_reads : ReadsUp after_space (λ n text. Long n text ⊎ Short n text) Any Skipped Skipped
 after_space_reads =

@@ -185,32 +185,16 @@ number_first : {P Q : List ℕ → Type 0} {t : List ℕ} (n : ℕ) (c : Both (I
 number_first n c y = record { front = c.front; back = c.back; split = c.split; first = (n, c.first); second = y }
 
 item_to : (i : Item) (text : List ℕ) (t : Token) → Both (IsToken t) (Parse t i) text → SpellsItem i text
-item_to i text token.Transaction b =
-    let n = b.second.second in let q = n.1.second in
-    subst (λ (j : Item). SpellsItem j text) q.1 (with_second b (with_second b.second (with_second n.1 q.2)))
+item_to i text token.Transaction b = grind (arith, with_second)
 item_to i text token.Reply b =
     let n = b.second.second in let q = n.1.second.second in
     subst (λ (j : Item). SpellsItem j text) q.1 (inl (with_second b (with_second b.second (number_first n.0 n.1 (with_second n.1.second q.2.1)))))
-item_to i text token.Pending b =
-    let n = b.second.second in let q = n.1.second in
-    subst (λ (j : Item). SpellsItem j text) q.second.0 (inr (with_second b (with_second b.second (number_first n.0 n.1 (with_second q q.second.1)))))
+item_to i text token.Pending b = grind (arith, with_second, number_first)
 item_to i text token.TransactionResponseAck b = subst (λ (j : Item). SpellsItem j text) b.second.1 (with_second b b.second.2)
 item_to i text _ b = absurd (b.second)
 
 item_from : (i : Item) (text : List ℕ) → SpellsItem i text → (t : Token) × Both (IsToken t) (Parse t i) text
-item_from (item.Request r) text b =
-    let n = b.second.second in
-    (token.Transaction, with_second b (with_second b.second (r.id.0, with_second n (r.actions, refl, n.second))))
-item_from (item.Ack ranges) text b = (token.TransactionResponseAck, with_second b (ranges, refl, b.second))
-item_from item.Ignored text h =
-    elim h [
-      | inl b ↦
-          let n = b.second.second in let g = n.second in
-          (token.Reply, with_second b (with_second b.second (n.first.0, record { front = n.front; back = n.back; split = n.split; first = n.first.1; second = with_second g (g.back, refl, (refl, g.second)) })))
-      | inr b ↦
-          let n = b.second.second in let g = n.second in
-          (token.Pending, with_second b (with_second b.second (n.first.0, record { front = n.front; back = n.back; split = n.split; first = n.first.1; second = with_second g (refl, g.second) })))
-    ]
+item_from i text b = grind arith
 
 pub item_reads : ReadsUp item_at SpellsItem Any Same UpTo
 unfolding item_at
@@ -221,13 +205,7 @@ item_reads =
 -- an item begins as its token
 item_begins : (p : ℕ → Bool) → ((word : List ℕ) → IsToken token.Transaction word → begins p word ≡ true) → ((word : List ℕ) → IsToken token.Reply word → begins p word ≡ true)
     → ((word : List ℕ) → IsToken token.Pending word → begins p word ≡ true) → ((word : List ℕ) → IsToken token.TransactionResponseAck word → begins p word ≡ true) → BeginsWith p SpellsItem
-item_begins p a b c d (item.Request r) text h = both_begins p (IsToken token.Transaction) _ a text h
-item_begins p a b c d (item.Ack ranges) text h = both_begins p (IsToken token.TransactionResponseAck) _ d text h
-item_begins p a b c d item.Ignored text h =
-    elim h [
-      | inl r ↦ both_begins p (IsToken token.Reply) _ b text r
-      | inr r ↦ both_begins p (IsToken token.Pending) _ c text r
-    ]
+item_begins p a b c d h text e = grind arith
 
 pub item_solid : BeginsWith is_solid SpellsItem
 item_solid = search (rules, item_begins, token_solid)
@@ -321,8 +299,7 @@ abbrev ErrorBody : List Item → List ℕ → Type 0
 ErrorBody is text = ([] ≡ is) × ToEnd SpellsError text
 
 ended_at : (text rest : List ℕ) → if_end text text ≡ Some rest → (text ≡ []) × (rest ≡ [])
-ended_at [] rest e = (refl, sym (some_is [] rest e))
-ended_at (b ∷ bs) rest e = absurd cc
+ended_at text rest e = grind arith
 
 all_space : (text : List ℕ) → skip text ≡ [] → IsSpace text
 all_space text e =
@@ -359,13 +336,10 @@ abbrev BodyOn : List Item → List ℕ → Type 0
 BodyOn is text = ErrorBody is text ⊎ ToEnd (Spaced SpellsItem is) text
 
 body_to : (is : List Item) (text : List ℕ) → BodyOn is text → ToEnd (SpellsBody is) text
-body_to is text (inl b) = subst (λ (js : List Item). ToEnd (SpellsBody js) text) b.0 b.1
-body_to [] text (inr b) = absurd (b.first)
-body_to (i ∷ others) text (inr b) = b
+body_to is text h = grind arith
 
 body_from : (is : List Item) (text : List ℕ) → ToEnd (SpellsBody is) text → BodyOn is text
-body_from [] text b = inl (refl, b)
-body_from (i ∷ others) text b = inr b
+body_from is text b = grind arith
 
 error_body_begins : BeginsWith is_error_start ErrorBody
 error_body_begins is text b = both_begins is_error_start SpellsError IsSpace (λ t h. both_begins is_error_start (IsToken token.Error) _ (λ w k. error_starts w k.stands) t h) text b.1

@@ -54,9 +54,7 @@ details_reads true =
 details_reads false = up_from (up_optional descriptor_at SpellsDescriptor AfterDescriptor (NoMore is_safe) descriptor_reads descriptor_braces) same_up
 
 details_ends : (g : Bool) (ds : List Descriptor) (front rest : List ℕ) → SpellsDetailsOf g ds front → NoMore is_safe rest → NoMore is_safe (front ++ rest)
-details_ends true ds front rest h n = group_ends is_safe safe_apart refl h.1.0 front rest h.1.1 n
-details_ends false [] front rest h n = ap (λ (x : List ℕ). begins is_safe (x ++ rest)) h ∙ n
-details_ends false (d ∷ ds) front rest h n = both_ends is_safe left_brace _ front rest safe_apart refl h
+details_ends g ds front rest h n = grind (arith, group_ends, safe_apart, both_ends)
 
 -- a command without its verb and its marks
 abbrev term_at : Bool → Bool → Verb → Reader Command
@@ -145,8 +143,7 @@ command_part_reads =
     (mark_reads (codes "O-")) wild_reads (λ o c front rest q n. wild_no_mark_by q.0 o c front rest q.1)
 
 allowed_from : (w : Bool) (v : Verb) → (w ≡ true → may_be_wild v ≡ true) → is_allowed w v ≡ true
-allowed_from true v h = h refl
-allowed_from false v h = refl
+allowed_from w v h = grind arith
 
 command_to : (c : Command) (text : List ℕ) → CommandPart c text → SpellsCommand c text
 command_to c text h = grind (arith, common_steps)
@@ -205,12 +202,7 @@ Fewer zero x text = ⊥
 Fewer (suc fuel) x text = PropertyThen (Fewer fuel) x text ⊎ CommandsAlone x text
 
 fewer_solid : (fuel : ℕ) → BeginsWith is_solid (Fewer fuel)
-fewer_solid zero x text h = absurd h
-fewer_solid (suc fuel) x text h =
-    elim h [
-      | inl p ↦ both_begins is_solid (SpellsContextProperty p.0) (Behind p.0 (Fewer fuel) x) (context_property_solid p.0) text p.1
-      | inr s ↦ separated_begins is_solid SpellsCommand command_solid s.0 text s.2
-    ]
+fewer_solid fuel x text h = grind (arith, context_property_solid, separated_begins, command_solid)
 
 behind_ends : (p : ContextProp) (Form : Contents → List ℕ → Type 0) (x : Contents) (front rest : List ℕ) → Behind p Form x front → AfterContents rest → NoMore is_safe (front ++ rest)
 behind_ends p Form x front rest h n =

@@ -5,7 +5,7 @@ use Rattle.std.specs.Prelude.{bytes_eq, codes}
 use Rattle.std.specs.List.{list_all}
 use Rattle.std.specs.Char.{to_ascii_lowercase}
 use Rattle.std.proofs.lemmas.Slice.Eq.{bytes_eq-Decides}
-use Rattle.std.proofs.lemmas.Bool.{and_parts, both_ways, false_from_ne_true, or_cases, eqb-true, not-true}
+use Rattle.std.proofs.lemmas.Bool.{and_parts, or_cases, eqb-true}
 use Rattle.gw_base.specs.Bytes.{is_one_of}
 use Rattle.gw_text.specs.Runs.{begins, first}
 use Rattle.gw_text.specs.Forms.{IsInAnyCase}
@@ -21,12 +21,10 @@ use Rattle.gw_msg.specs.Grammar.{SpellsVerb}
 -- ---- the next byte
 
 pub begins_none : (p : ℕ → Bool) (text : List ℕ) → None ≡ first text → begins p text ≡ false
-begins_none p [] e = refl
-begins_none p (b ∷ bs) e = absurd cc
+begins_none p text e = grind arith
 
 pub begins_some : (p : ℕ → Bool) (text : List ℕ) (b : ℕ) → Some b ≡ first text → begins p text ≡ p b
-begins_some p [] b e = absurd cc
-begins_some p (c ∷ cs) b e = ap p (sym (some_is b c e))
+begins_some p text b e = grind arith
 
 -- ---- the first bytes of tokens
 
@@ -92,8 +90,7 @@ either_case p m c e small large = grind (arith, common_steps)
 
 -- what begins with a letter in any case
 pub case_begins : (p : ℕ → Bool) (l : ℕ) (ls text : List ℕ) → IsInAnyCase (l ∷ ls) text → p (to_ascii_lowercase l) ≡ true → p (to_ascii_lowercase l - 32) ≡ true → begins p text ≡ true
-case_begins p l ls [] h small large = absurd cc
-case_begins p l ls (c ∷ cs) h small large = let same : to_ascii_lowercase c ≡ to_ascii_lowercase l = cc in either_case p (to_ascii_lowercase l) c same small large
+case_begins p l ls text h small large = grind arith
 
 -- what a class has of each of some marks
 pub one_of : (p : ℕ → Bool) (marks : List ℕ) (c : ℕ) → list_all p marks ≡ true → is_one_of marks c ≡ true → p c ≡ true
@@ -116,13 +113,10 @@ lower_in p (m ∷ marks) c small large h =
     ]
 
 begins_with : (p : ℕ → Bool) (marks text : List ℕ) → list_all p marks ≡ true → list_all (λ m. p (m - 32)) marks ≡ true → begins (is_one_of marks) (map to_ascii_lowercase text) ≡ true → begins p text ≡ true
-begins_with p marks [] small large h = absurd cc
-begins_with p marks (c ∷ cs) small large h = lower_in p marks c small large h
+begins_with p marks text small large h = grind (arith, lower_in)
 
 begins_without : (marks letters text : List ℕ) → list_all (λ x. is_one_of marks (to_ascii_lowercase x)) letters ≡ true → begins (λ b. not (is_one_of marks b)) (map to_ascii_lowercase text) ≡ true → begins (λ b. not (is_one_of letters b)) text ≡ true
-begins_without marks letters [] all h = absurd cc
-begins_without marks letters (c ∷ cs) all h =
-    ap not (false_from_ne_true (is_one_of letters c) (λ is. both_ways (is_one_of marks (to_ascii_lowercase c)) (not-true _ h) (one_of (λ x. is_one_of marks (to_ascii_lowercase x)) letters c all is)))
+begins_without marks letters text all h = grind (arith, one_of)
 
 -- ---- errors and items
 

@@ -1,8 +1,8 @@
 -- Readers of marks that may be missing, and of what a test allows.
 use Rattle.std.proofs.lemmas.Grind.{common_steps}
-use Rattle.std.proofs.Common.{◌≡◌, ◌⊎◌, inl, inr, ℕ, Bool, true, false, not, ◌==◌, List, [], ◌∷◌, ◌++◌, Some, None, refl, ap, sym, ◌∙◌, arith}
+use Rattle.std.proofs.Common.{◌≡◌, ◌⊎◌, ℕ, Bool, true, false, not, ◌==◌, List, [], ◌∷◌, ◌++◌, Some, None, ap, sym, ◌∙◌, arith}
 use Rattle.std.proofs.lemmas.List.{append-nil}
-use Rattle.std.proofs.lemmas.Bool.{both_ways, false_from_ne_true, not-true}
+use Rattle.std.proofs.lemmas.Bool.{not-true}
 use Rattle.gw_base.specs.Lang.{Both, ◌▹◌, IsText}
 use Rattle.gw_text.specs.Runs.{begins, is_byte, NoMore}
 use Rattle.gw_base.specs.Bytes.{is_digit}
@@ -10,7 +10,7 @@ use Rattle.gw_text.specs.Lexical.{is_safe, is_solid, is_space_start}
 use Rattle.gw_text.specs.Sign.{prefix_at, sign_at}
 use Rattle.gw_text.specs.Forms.{IsInAnyCase, IsSign}
 use Rattle.gw_text.specs.Reader.{Reader, ◌>>=◌, if_byte}
-use Rattle.gw_text.proofs.FormLaws.{both_begins, begins_ends, no_byte, digit_is_safe, BeginsWith}
+use Rattle.gw_text.proofs.FormLaws.{begins_ends, no_byte, digit_is_safe, BeginsWith}
 use Rattle.gw_text.proofs.ReaderLaws.{ReadsUp, Same, up_as, up_from, up_done, up_if_prefix, up_if_byte, up_sign, up_skipped, same_up}
 use Rattle.gw_msg.specs.Grammar.{SpellsMark}
 use Rattle.gw_msg.specs.Reading.{mark_at, only_if}
@@ -31,11 +31,7 @@ nothing_more text p q = record { front = text; back = []; split = sym (append-ni
 -- what is read only where a test holds
 pub up_only_if : {W : Type 0} (t : Bool) (k : Reader W) (Q : W → List ℕ → Type 0) (Next : List ℕ → Type 0) (From To : List ℕ → List ℕ → Type 0) → ReadsUp k Q Next From To
     → ReadsUp (λ text. only_if t >>= λ u. k text) (λ w text. (t ≡ true) × Q w text) Next From To
-up_only_if true k Q Next From To h = up_as h (λ w text q. (refl, q)) (λ w text q. q.1)
-up_only_if false k Q Next From To h = record {
-  sound = λ text v rest e. absurd cc;
-  complete = λ v front rest start q n e. absurd (let clash : false ≡ true = q.0 in cc);
-}
+up_only_if t k Q Next From To h = grind arith
 
 -- ---- marks
 
@@ -46,8 +42,7 @@ mark_to : (mark : List ℕ) (w : Bool) (text : List ℕ) → (Both (IsInAnyCase 
 mark_to mark w text h = grind (arith, common_steps)
 
 mark_from : (mark : List ℕ) (w : Bool) (text : List ℕ) → SpellsMark mark w text → (Both (IsInAnyCase mark) (Done true w) text ⊎ Done false w text)
-mark_from mark true text h = inl (nothing_more text h (refl, refl))
-mark_from mark false text h = inr (refl, h)
+mark_from mark w text h = grind (arith, nothing_more)
 
 pub mark_reads : (mark : List ℕ) → ReadsUp (mark_at mark) (SpellsMark mark) (NoPrefix mark) Same Same
 unfolding mark_at
@@ -60,8 +55,7 @@ mark_reads mark =
 -- what begins with a mark, or with what is behind it
 pub mark_begins : (p : ℕ → Bool) (mark : List ℕ) (Q : List ℕ → Type 0) → ((text : List ℕ) → IsInAnyCase mark text → begins p text ≡ true) → ((text : List ℕ) → Q text → begins p text ≡ true)
     → (w : Bool) (text : List ℕ) → Both (SpellsMark mark w) Q text → begins p text ≡ true
-mark_begins p mark Q h k true text b = both_begins p (IsInAnyCase mark) Q h text b
-mark_begins p mark Q h k false text b = ap (begins p) (b.split ∙ ap (λ (x : List ℕ). x ++ b.back) b.first) ∙ k b.back b.second
+mark_begins p mark Q h k w text b = grind arith
 
 -- ---- single bytes
 
@@ -91,8 +85,7 @@ behind_sign b k Q Next To solid first h = up_from (up_sign b k Q Next To solid (
 
 -- a class within another
 pub no_more_within : (p q : ℕ → Bool) → ((c : ℕ) → p c ≡ true → q c ≡ true) → (rest : List ℕ) → NoMore q rest → NoMore p rest
-no_more_within p q h [] n = refl
-no_more_within p q h (c ∷ cs) n = false_from_ne_true (p c) (λ is. both_ways (q c) n (h c is))
+no_more_within p q h rest n = grind arith
 
 pub no_digit : (rest : List ℕ) → NoMore is_safe rest → NoMore is_digit rest
 no_digit = no_more_within is_digit is_safe digit_is_safe

@@ -24,9 +24,7 @@ lower_dash : (r : ℕ) → is_safe r ≡ false → not (to_ascii_lowercase r == 
 lower_dash r out = grind (arith, common_steps)
 
 front_dash : (front rest : List ℕ) (l : ℕ) → map to_ascii_lowercase front ≡ l ∷ (dash ∷ []) → no_dash (map to_ascii_lowercase (front ++ rest)) ≡ false
-front_dash [] rest l e = absurd cc
-front_dash (a ∷ []) rest l e = absurd cc
-front_dash (a ∷ (b ∷ cs)) rest l e = let same : to_ascii_lowercase b ≡ dash = cc in rw same refl
+front_dash front rest l e = grind (arith, common_steps)
 
 word_no_dash : (word rest : List ℕ) → 0 < length word → no_dash (map to_ascii_lowercase word) ≡ true → NoMore is_safe rest → no_dash (map to_ascii_lowercase (word ++ rest)) ≡ true
 word_no_dash [] rest some h n = absurd (omega arith)
@@ -35,8 +33,7 @@ word_no_dash (a ∷ []) (r ∷ rs) some h n = lower_dash r n
 word_no_dash (a ∷ (b ∷ cs)) rest some h n = h
 
 none_is : {A : Type 0} (o : Option A) → ((x : A) → o ≡ Some x → ⊥) → o ≡ None
-none_is None h = refl
-none_is (Some x) h = absurd (h x refl)
+none_is o h = grind arith
 
 -- no letter and dash stand in front of a word that is a token
 pub no_mark : (letter : ℕ) (word rest : List ℕ) (t : Token) → IsWord word → token_of word ≡ Some t → NoMore is_safe rest → prefix_at (letter ∷ (dash ∷ [])) (word ++ rest) ≡ None

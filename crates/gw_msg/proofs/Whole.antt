@@ -1,7 +1,7 @@
 -- A whole text: its message, a header of another version, or neither.
-use Rattle.std.proofs.Common.{◌≡◌, ◌≢◌, ◌⊎◌, inl, inr, ℕ, Bool, true, false, cond, ◌==◌, List, [], ◌∷◌, ◌++◌, Option, Some, None, Result, Ok, Err, refl, ap, sym, subst, ◌∙◌, arith}
+use Rattle.std.proofs.Common.{◌≡◌, ◌≢◌, ◌⊎◌, inl, inr, ℕ, Bool, false, cond, ◌==◌, List, [], ◌++◌, Option, Some, None, Result, Ok, Err, refl, ap, sym, subst, ◌∙◌, arith}
 use Rattle.std.proofs.lemmas.List.{append-nil}
-use Rattle.std.proofs.lemmas.Bool.{eqb-true, eqb-false, ne_eqb}
+use Rattle.std.proofs.lemmas.Bool.{eqb-false, ne_eqb}
 use Rattle.gw_text.specs.SpaceScan.{skip}
 use Rattle.gw_text.specs.Reader.{◌>>=◌, if_end}
 use Rattle.gw_text.proofs.FormLaws.{bind_some, skip_solid}
@@ -16,28 +16,15 @@ use Rattle.gw_msg.proofs.HeaderLaws.{header_reads}
 abbrev Answer : Type 0
 Answer = Result Message ReadFault
 
-if_ok : (t : Bool) (r : Answer) (m : Message) → cond t r (Err Version) ≡ Ok m → (t ≡ true) × (r ≡ Ok m)
-if_ok true r m e = (refl, e)
-if_ok false r m e = absurd cc
-
 if_version : (t : Bool) (r : Answer) → cond t r (Err Version) ≡ Err Version → (r ≡ Err Version → ⊥) → t ≡ false
-if_version true r e h = absurd (h e)
-if_version false r e h = refl
-
-or_syntax_ok : (o : Option Message) (m : Message) → or_syntax o ≡ Ok m → o ≡ Some m
-or_syntax_ok None m e = absurd cc
-or_syntax_ok (Some n) m e = cc
+if_version t r e h = grind arith
 
 or_syntax_version : (o : Option Message) → or_syntax o ≡ Err Version → ⊥
-or_syntax_version None e = absurd cc
-or_syntax_version (Some n) e = absurd cc
+or_syntax_version o e = grind arith
 
 -- what was judged as a message, and as another version
 judged_ok : (o : Option (ℕ × List ℕ)) (m : Message) → judged o ≡ Ok m → (rest : List ℕ) × (o ≡ Some (spoken_version, rest)) × (all_at content_at rest ≡ Some m)
-judged_ok None m e = absurd cc
-judged_ok (Some h) m e =
-    let j = if_ok (h.0 == spoken_version) (or_syntax (all_at content_at h.1)) m e in
-    (h.1, ap (λ (k : ℕ). Some (k, h.1)) (eqb-true h.0 spoken_version j.0), or_syntax_ok (all_at content_at h.1) m j.1)
+judged_ok o m e = grind arith
 
 judged_version : (o : Option (ℕ × List ℕ)) → judged o ≡ Err Version → (n : ℕ) × (rest : List ℕ) × (o ≡ Some (n, rest)) × (n ≢ spoken_version)
 judged_version None e = absurd cc
@@ -46,8 +33,7 @@ judged_version (Some h) e =
     (h.0, h.1, refl, λ same. eqb-false h.0 spoken_version other same)
 
 end_is : (m n : Message) (rest : List ℕ) → if_end m rest ≡ Some n → (rest ≡ []) × (m ≡ n)
-end_is m n [] e = (refl, cc)
-end_is m n (b ∷ bs) e = absurd cc
+end_is m n rest e = grind arith
 
 -- a whole text is read as what it spells
 content_sound : (text : List ℕ) (m : Message) → all_at content_at text ≡ Some m → SpellsContent m text
@@ -142,17 +128,8 @@ version_answer text (Err NoMemory) h v = absurd (not_both text h v)
 
 -- ---- each text has one answer
 
-or_syntax_memory : (o : Option Message) → or_syntax o ≢ Err NoMemory
-or_syntax_memory None e = absurd cc
-or_syntax_memory (Some m) e = absurd cc
-
-judged_memory_at : (t : Bool) (o : Option Message) → cond t (or_syntax o) (Err Version) ≢ Err NoMemory
-judged_memory_at true o e = or_syntax_memory o e
-judged_memory_at false o e = absurd cc
-
 judged_memory : (o : Option (ℕ × List ℕ)) → judged o ≢ Err NoMemory
-judged_memory None e = absurd cc
-judged_memory (Some h) e = judged_memory_at (h.0 == spoken_version) (all_at content_at h.1) e
+judged_memory o e = grind arith
 
 pub no_memory : (text : List ℕ) → message_of text ≢ Err NoMemory
 unfolding message_of

@@ -1,12 +1,11 @@
 -- The readers of single words, numbers and names read their forms.
 use Rattle.std.proofs.lemmas.Grind.{common_steps}
-use Rattle.std.proofs.Common.{◌≡◌, ◌⊎◌, inl, inr, ℕ, ◌<◌, Bool, true, false, not, List, [], ◌∷◌, ◌++◌, length, Option, Some, None, refl, ap, subst, ◌∙◌, arith, rules}
+use Rattle.std.proofs.Common.{◌≡◌, ◌⊎◌, inl, inr, ℕ, ◌<◌, Bool, true, false, not, List, [], ◌∷◌, ◌++◌, length, Option, Some, refl, ap, ◌∙◌, arith, rules}
 use Rattle.std.specs.Prelude.{codes}
 use Rattle.std.specs.List.{list_all}
 use Rattle.std.proofs.lemmas.Bool.{and_parts, and_from}
 use Rattle.gw_base.specs.Bytes.{byte, is_digit}
 use Rattle.gw_base.proofs.Booleans.{other_byte}
-use Rattle.gw_base.proofs.NameForms.{some_mid}
 use Rattle.gw_base.specs.Lang.{Both, ◌▹◌, IsText}
 use Rattle.gw_base.specs.Addresses.{is_address_byte, IsAddress}
 use Rattle.gw_base.specs.Mids.{is_domain_byte, is_device_byte, IsDomain, IsOptionalPort, IsMid}
@@ -14,7 +13,6 @@ use Rattle.gw_base.specs.Wildcards.{is_term_byte, IsTermText}
 use Rattle.gw_base.specs.declared.command_words.CtxRef.{CtxRef}
 use Rattle.gw_base.specs.declared.command_words.CtxRef.TheVariants as ctx
 use Rattle.gw_base.specs.declared.command_words.Verb.{Verb}
-use Rattle.gw_base.specs.declared.command_words.Verb.TheVariants as verb
 use Rattle.gw_text.specs.Lexical.{is_safe, is_solid, is_space_start}
 use Rattle.gw_text.specs.Runs.{begins, NoMore}
 use Rattle.gw_text.specs.Forms.{IsToken, IsSomeRun, IsWord, IsUint32}
@@ -22,7 +20,7 @@ use Rattle.gw_text.specs.Reader.{◌>>=◌, word_as, solid_as, number_at}
 use Rattle.gw_text.specs.Tokens.{token_of}
 use Rattle.gw_text.specs.declared.token.Token.{Token}
 use Rattle.gw_text.specs.declared.token.Token.TheVariants as token
-use Rattle.gw_text.proofs.FormLaws.{some_is, BeginsWith, begins_wider, space_bytes, is_solid_by, digit_apart, run_begins, word_solid, number_begins, number_solid}
+use Rattle.gw_text.proofs.FormLaws.{BeginsWith, begins_wider, space_bytes, is_solid_by, digit_apart, run_begins, word_solid, number_begins}
 use Rattle.gw_text.proofs.ReaderLaws.{ReadsUp, Same, up_as, up_last, up_then, up_done, up_word, up_solid, up_number}
 use Rattle.gw_msg.specs.Grammar.{command_token, SpellsVerb, SpellsTerm, SpellsContextId, SpellsMid}
 use Rattle.gw_msg.specs.Words.{verb_for, verb_of, is_context, is_error}
@@ -34,26 +32,10 @@ use Rattle.gw_msg.proofs.WordLemmas.{term_is, term_again, mid_is, mid_again}
 -- ---- tokens
 
 verb_stands : (o : Option Token) (v : Verb) → verb_for o ≡ Some v → o ≡ Some (command_token v)
-verb_stands (Some token.Add) v e = ap (λ (w : Verb). Some (command_token w)) (some_is verb.Add v e)
-verb_stands (Some token.Modify) v e = ap (λ (w : Verb). Some (command_token w)) (some_is verb.Modify v e)
-verb_stands (Some token.Move) v e = ap (λ (w : Verb). Some (command_token w)) (some_is verb.Move v e)
-verb_stands (Some token.Subtract) v e = ap (λ (w : Verb). Some (command_token w)) (some_is verb.Subtract v e)
-verb_stands (Some token.AuditValue) v e = ap (λ (w : Verb). Some (command_token w)) (some_is verb.AuditValue v e)
-verb_stands (Some token.AuditCapability) v e = ap (λ (w : Verb). Some (command_token w)) (some_is verb.AuditCapability v e)
-verb_stands (Some token.Notify) v e = ap (λ (w : Verb). Some (command_token w)) (some_is verb.Notify v e)
-verb_stands (Some token.ServiceChange) v e = ap (λ (w : Verb). Some (command_token w)) (some_is verb.ServiceChange v e)
-verb_stands (Some _) v e = absurd cc
-verb_stands None v e = absurd cc
+verb_stands o v e = grind arith
 
 verb_again : (v : Verb) → verb_for (Some (command_token v)) ≡ Some v
-verb_again verb.Add = refl
-verb_again verb.Modify = refl
-verb_again verb.Move = refl
-verb_again verb.Subtract = refl
-verb_again verb.AuditValue = refl
-verb_again verb.AuditCapability = refl
-verb_again verb.Notify = refl
-verb_again verb.ServiceChange = refl
+verb_again v = grind arith
 
 pub verb_reads : ReadsUp (word_as verb_of) SpellsVerb (NoMore is_safe) Same Same
 verb_reads =
@@ -78,15 +60,13 @@ token_in_reads class =
     (λ u text h. (h.0, nothing_more text h.2 (h.1, (refl, refl))))
 
 context_to : (t : Token) (text : List ℕ) → is_context t ≡ true → IsToken t text → IsToken token.Context text
-context_to token.Context text e h = h
-context_to _ text e h = absurd cc
+context_to t text e h = grind arith
 
 pub context_reads : ReadsUp (token_in is_context) (λ u. IsToken token.Context) (NoMore is_safe) Same Same
 context_reads = up_as (token_in_reads is_context) (λ u text h. context_to h.0 text h.1 h.2) (λ u text h. (token.Context, refl, h))
 
 error_to : (t : Token) (text : List ℕ) → is_error t ≡ true → IsToken t text → IsToken token.Error text
-error_to token.Error text e h = h
-error_to _ text e h = absurd cc
+error_to t text e h = grind arith
 
 pub error_word_reads : ReadsUp (token_in is_error) (λ u. IsToken token.Error) (NoMore is_safe) Same Same
 error_word_reads = up_as (token_in_reads is_error) (λ u text h. error_to h.0 text h.1 h.2) (λ u text h. (token.Error, refl, h))
@@ -150,20 +130,11 @@ null_first b out other c text h = grind (arith, common_steps)
 all_first : (b : ℕ) → is_digit b ≡ false → other_than b (byte (codes "-")) ≡ true → other_than b (byte (codes "*")) ≡ true → BeginsWith (other_than b) AllOn
 all_first b out other second c text h = grind (arith, common_steps)
 
-mark_is : (mark : List ℕ) (v c : CtxRef) (text : List ℕ) → SpellsContextId v mark → Mark mark v c text → SpellsContextId c text
-mark_is mark v c text is b = grind (arith, common_steps)
-
 context_id_to : (c : CtxRef) (text : List ℕ) → ChooseOn c text → SpellsContextId c text
-context_id_to c text (inl m) = mark_is (codes "$") ctx.Choose c text refl m
-context_id_to c text (inr (inl m)) = mark_is (codes "*") ctx.All c text refl m
-context_id_to c text (inr (inr (inl m))) = mark_is (codes "-") ctx.Null c text refl m
-context_id_to c text (inr (inr (inr n))) = subst (λ (d : CtxRef). SpellsContextId d text) n.1 n.2
+context_id_to c text h = grind arith
 
 context_id_from : (c : CtxRef) (text : List ℕ) → SpellsContextId c text → ChooseOn c text
-context_id_from ctx.Choose text h = inl (nothing_more text h (refl, refl))
-context_id_from ctx.All text h = inr (inl (nothing_more text h (refl, refl)))
-context_id_from ctx.Null text h = inr (inr (inl (nothing_more text h (refl, refl))))
-context_id_from (ctx.Num n) text h = inr (inr (inr (n.0, refl, h)))
+context_id_from c text h = grind arith
 
 pub context_id_reads : ReadsUp context_id_at SpellsContextId (NoMore is_digit) Same Same
 unfolding context_id_at
@@ -178,10 +149,7 @@ context_id_reads =
     context_id_to context_id_from
 
 pub context_id_solid : BeginsWith is_solid SpellsContextId
-context_id_solid ctx.Choose text h = ap (begins is_solid) h
-context_id_solid ctx.All text h = ap (begins is_solid) h
-context_id_solid ctx.Null text h = ap (begins is_solid) h
-context_id_solid (ctx.Num n) text h = number_solid _ _ n.0 text h
+context_id_solid h text e = grind arith
 
 -- ---- mIds
 
@@ -214,8 +182,7 @@ mid_solid text h =
     ]
 
 mid_some : (text : List ℕ) → IsMid text → 0 < length text
-mid_some [] h = absurd (some_mid h)
-mid_some (c ∷ cs) h = omega arith
+mid_some text h = grind arith
 
 mid_run : (text : List ℕ) → IsMid text → IsSomeRun is_solid text
 mid_run text h = record { run = mid_solid text h; some = mid_some text h }

@@ -1,5 +1,5 @@
 -- What a word stands for as a TerminationID or as an mId is what gw_base reads it as, and what the grammar says of it.
-use Rattle.std.proofs.Common.{◌≡◌, ℕ, Bool, true, false, cond, List, Some, None, Ok, Err, refl, ap, sym, subst, ◌∙◌, arith}
+use Rattle.std.proofs.Common.{◌≡◌, ℕ, Bool, cond, List, Some, None, Ok, Err, ap, sym, subst, ◌∙◌, arith}
 use Rattle.std.specs.Bool.{Decides}
 use Rattle.gw_base.specs.Mids.{IsMid, longest_mid}
 use Rattle.gw_base.specs.Reads.{ReadsAs}
@@ -15,12 +15,10 @@ use Rattle.gw_msg.proofs.NameTests.{decides_term_text, class_fits, decides_mid}
 -- ---- the value where a test holds
 
 chosen : {V P : Type 0} (t : Bool) → Decides t P → (v w : V) → cond t (Some v) None ≡ Some w → P × (v ≡ w)
-chosen true d v w e = let same : v ≡ w = cc in (d.0 refl, same)
-chosen false d v w e = absurd cc
+chosen t d v w e = grind arith
 
 chosen_none : {V P : Type 0} (t : Bool) → Decides t P → (v : V) → ¬ P → cond t (Some v) None ≡ None
-chosen_none true d v n = absurd (n (d.0 refl))
-chosen_none false d v n = refl
+chosen_none t d v n = grind arith
 
 -- ---- TerminationIDs
 

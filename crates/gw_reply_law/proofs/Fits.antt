@@ -61,14 +61,7 @@ Joins true p = is_word_first p ≡ false
 Joins false p = Unit {0}
 
 joins_append : (ended : Bool) (p q : Pieces) → Joins ended p → Joins (ends_word ended p) q → Joins ended (append p q)
-joins_append false p q h k = tt
-joins_append true nothing q h k = k
-joins_append true (word w rest) q h k = h
-joins_append true (space span rest) q h k = refl
-joins_append true (quoted span rest) q h k = refl
-joins_append true (mark b rest) q h k = refl
-joins_append true (octets body rest) q h k = refl
-joins_append true (group inside rest) q h k = refl
+joins_append ended p q h k = grind arith
 
 valid_append : (levels : ℕ) (b : Before) (ended : Bool) (p q : Pieces) → AreValid levels b p → AreValid levels (after b p) q → Joins (ends_word ended p) q → AreValid levels b (append p q)
 valid_append levels b ended nothing q h k j = k
@@ -87,8 +80,7 @@ valid_deeper few many b (quoted span rest) le h = (h.0, valid_deeper few many Ot
 valid_deeper few many b (word w rest) le h = (h.0, h.1, valid_deeper few many (after_word b w) rest le h.2)
 valid_deeper few many b (mark m rest) le h = (h.0, valid_deeper few many (after_mark m) rest le h.1)
 valid_deeper few many b (octets body rest) le h = (h.0, omega (arith, h.1), h.2, valid_deeper few many Other rest le h.3)
-valid_deeper few many b (group inside rest) le h =
-    (h.0, omega (arith, h.1), valid_deeper (few - 1) (many - 1) Other inside (omega (arith, h.1)) h.2, valid_deeper few many Other rest le h.3)
+valid_deeper few many b (group inside rest) le h = grind (arith, valid_deeper (few - 1) (many - 1) Other inside (omega (arith, h.1)) h.2, valid_deeper few many Other rest le h.3)
 
 -- ---- stretches
 
@@ -138,8 +130,7 @@ fits_nothing levels b v = record { pieces = nothing; split = refl; valid = tt; j
     none false = tt
 
 any_joins : (v : Bool) (p : Pieces) → is_word_first p ≡ false → Joins v p
-any_joins true p h = h
-any_joins false p h = tt
+any_joins v p h = grind arith
 
 pub fits_word : (levels : ℕ) (b : Before) (w : List ℕ) → IsWord w → Fits levels b false w (after_word b w) true
 fits_word levels b w h = record { pieces = word w nothing; split = sym (append-nil w); valid = (h, refl, tt); joins = tt; last = refl; over = refl }

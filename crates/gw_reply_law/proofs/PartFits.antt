@@ -17,9 +17,7 @@ use Rattle.gw_desc.specs.declared.descriptor.KeptKind.{KeptKind}
 use Rattle.gw_desc.specs.declared.descriptor.KeptKind.TheVariants as kept
 use Rattle.gw_desc.specs.declared.descriptor.Property.{Property}
 use Rattle.gw_desc.specs.declared.descriptor.Sign.{Sign}
-use Rattle.gw_desc.specs.declared.descriptor.Sign.TheVariants.{Equal}
 use Rattle.gw_desc.specs.declared.values.AuditItem.{AuditItem}
-use Rattle.gw_desc.specs.declared.values.AuditItem.TheVariants as item
 use Rattle.gw_desc.specs.declared.values.Mode.{Mode}
 use Rattle.gw_desc.specs.declared.values.Mode.TheVariants as mode
 use Rattle.gw_reply.specs.Commands.{command_word}
@@ -85,13 +83,11 @@ value_runs levels b v room kind (inr (inr (inl h))) = as_runs (fits_group levels
 value_runs levels b v room kind (inr (inr (inr h))) = as_runs (fits_word levels b v h)
 
 sign_is_mark : (s : Sign) → is_mark (sign_byte s) ≡ true
-sign_is_mark Equal = refl
-sign_is_mark _ = refl
+sign_is_mark s = grind arith
 
 -- behind none of them braces begin octets
 sign_kind : (s : Sign) → begins_octets (after_mark (sign_byte s)) ≡ false
-sign_kind Equal = refl
-sign_kind _ = refl
+sign_kind s = grind arith
 
 property_runs : (levels : ℕ) (p : P) → request_depth ≤ levels → IsKeptProperty p → Runs levels Other false (property_text p)
 property_runs levels p room h =
@@ -105,12 +101,10 @@ listed_runs levels key value ps room h k all =
     (later_runs levels property_text IsKeptProperty (λ p kept. property_runs levels p room kept) ps all (after_word Equals value) true)
 
 mode_is_word : (m : Mode) → IsWord (mode_word m)
-mode_is_word mode.SendOnly = record { run = refl; some = omega arith }
-mode_is_word _ = record { run = refl; some = omega arith }
+mode_is_word m = grind arith
 
 service_is_word : (s : Service) → IsWord (service_word s)
-service_is_word service.Test = record { run = refl; some = omega arith }
-service_is_word _ = record { run = refl; some = omega arith }
+service_is_word s = grind arith
 
 -- ---- media
 
@@ -159,8 +153,7 @@ filled_runs levels f room h =
 -- ---- tails
 
 kind_is_word : (k : KeptKind) → IsWord (kind_word k)
-kind_is_word kept.Events = record { run = refl; some = omega arith }
-kind_is_word _ = record { run = refl; some = omega arith }
+kind_is_word k = grind arith
 
 kind_begins : (k : KeptKind) → begins_octets (after_word Other (kind_word k)) ≡ false
 unfolding token_of is_spelling
@@ -185,8 +178,7 @@ tail_runs levels word true w g room is kind h k = then_runs (fits_word levels Ot
 -- ---- parts
 
 item_is_word : (i : AuditItem) → IsWord (item_word i)
-item_is_word (item.Kept k) = kind_is_word k
-item_is_word _ = record { run = refl; some = omega arith }
+item_is_word i = grind arith
 
 part_runs : (levels : ℕ) (p : ReplyPart) → request_depth + 2 < levels → HasKeptReply p → Runs levels Other false (part_text p)
 unfolding token_of is_spelling
@@ -217,8 +209,7 @@ command_runs levels c room h =
 -- ---- contexts
 
 flow_is_word : (f : Flow) → IsWord (flow_word f)
-flow_is_word flow.Bothway = record { run = refl; some = omega arith }
-flow_is_word _ = record { run = refl; some = omega arith }
+flow_is_word f = grind arith
 
 link_runs : (levels : ℕ) (l : Link) → HasNames l → Runs levels Other false (link_text l)
 link_runs levels l h =
@@ -235,8 +226,7 @@ context_part_runs levels (told.Topology links) room h =
 
 -- what is told of the context itself, and behind that of the commands
 told_runs : (levels : ℕ) (parts : List ContextPart) (r : Result (List CommandReply) Code) → request_depth + 3 < levels → All IsKeptPart parts → AllOk IsKeptCommand r → Runs levels Other false (inner_text parts r)
-told_runs levels [] r room h k =
-    subst (Runs levels Other false) (sym (inner_none r)) (replies_run levels command_reply_text IsKeptCommand (omega (arith, room)) (λ c kept. command_runs levels c room kept) r k)
+told_runs levels [] r room h k = grind (arith, inner_none, replies_run, command_runs)
 told_runs levels (p ∷ ps) r room h k =
     subst (Runs levels Other false) (sym (inner_first p ps r))
     (runs_then_runs (context_part_runs levels p (omega (arith, room)) (All-head IsKeptPart p ps h))

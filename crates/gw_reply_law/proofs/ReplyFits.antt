@@ -9,13 +9,11 @@ use Rattle.std.proofs.lemmas.Bool.{and_from}
 use Rattle.gw_base.specs.Mids.{IsMid}
 use Rattle.gw_base.specs.Codes.{number_of, code_text}
 use Rattle.gw_base.specs.declared.code.Code.{Code}
-use Rattle.gw_base.specs.declared.code.Code.TheVariants.{SyntaxError}
 use Rattle.gw_base.specs.declared.term_ref.TermRef.{TermRef}
 use Rattle.gw_base.specs.declared.term_ref.TermRef.TheVariants.{Root, All as Every, Choose, Under, Name, Other as Pattern}
 use Rattle.gw_base.specs.declared.command_words.CtxRef.{CtxRef}
 use Rattle.gw_base.specs.declared.command_words.CtxRef.TheVariants as ctx
 use Rattle.gw_base.specs.declared.command_words.Verb.{Verb}
-use Rattle.gw_base.specs.declared.command_words.Verb.TheVariants as verb
 use Rattle.gw_text.specs.Lexical.{equals_sign, is_blank}
 use Rattle.gw_text.specs.Space.{IsSpace, IsSep}
 use Rattle.gw_text.specs.Forms.{IsSign, IsToken, IsWord}
@@ -44,8 +42,7 @@ use Rattle.gw_reply_law.proofs.Words.{decimal_word, decimal_uint32, term_word, n
 -- ---- errors
 
 text_is_quotable : (code : Code) → IsRun is_quotable (code_text code)
-text_is_quotable SyntaxError = refl
-text_is_quotable _ = refl
+text_is_quotable code = grind arith
 
 pub is_quoted : (text : List ℕ) → IsRun is_quotable text → IsQuoted (quoted text)
 is_quoted text h = record { front = codes "\""; back = text ++ codes "\""; split = refl; first = refl; second = record { front = text; back = codes "\""; split = refl; first = h; second = refl } }
@@ -61,8 +58,7 @@ error_fits levels code room =
 -- ---- words
 
 pub command_is_word : (v : Verb) → IsWord (command_word v)
-command_is_word verb.Add = record { run = refl; some = omega arith }
-command_is_word _ = record { run = refl; some = omega arith }
+command_is_word v = grind arith
 
 pub context_is_word : (c : CtxRef) → IsWord (context_text c)
 context_is_word ctx.Null = record { run = refl; some = omega arith }
@@ -168,44 +164,7 @@ message_spelled mid body id m h = record {
 
 -- so it spells the message with one item
 pub is_spelled : (mid : List ℕ) (id : ℕ) (text : List ℕ) → IsReplyMessage mid id text → Spells (reply_message mid) text
-is_spelled mid id text h =
-    let content = h.second in
-    let body = content.second in
-    let reply = body.second in
-    let spelled = reply.first in
-    let words = spelled.second in
-    let number = words.second in
-    record {
-      front = h.front;
-      back = h.back;
-      split = h.split;
-      first = h.first;
-      second = record {
-        front = content.front;
-        back = content.back;
-        split = content.split;
-        first = content.first;
-        second = record {
-          front = body.front;
-          back = body.back;
-          split = body.split;
-          first = body.first;
-          second = record {
-            front = reply.front;
-            back = reply.back;
-            split = reply.split;
-            first = inl (record {
-              front = spelled.front;
-              back = spelled.back;
-              split = spelled.split;
-              first = spelled.first;
-              second = record { front = words.front; back = words.back; split = words.split; first = words.first; second = record { front = number.front; back = number.back; split = number.split; first = (id, number.first); second = number.second } };
-            });
-            second = reply.second;
-          };
-        };
-      };
-    }
+is_spelled mid id text h = grind arith
 
 -- and that is what reading it answers
 pub is_read : (mid : List ℕ) (id : ℕ) (text : List ℕ) → IsReplyMessage mid id text → message_of text ≡ Ok (reply_message mid)
