@@ -1,11 +1,9 @@
 -- Choices and what they own.
-use Rattle.std.proofs.Common.{◌≡◌, ℕ, zero, suc, ◌+◌, ◌<◌, ◌≤◌, Bool, true, false, cond, List, [], ◌∷◌, ◌++◌, map, length, get_or, take, drop, slice_get, Option, None, Some, refl, sym, ap, ◌∙◌, arith, add-one, append_assoc, append-nil, option_copied, is_some, not, Bor}
-use Rattle.std.specs.Prelude.{option_to_list, filter, is_none}
+use Rattle.std.proofs.Common.{◌≡◌, ℕ, zero, suc, ◌+◌, ◌<◌, ◌≤◌, Bool, true, false, cond, List, [], ◌∷◌, ◌++◌, map, length, get_or, take, drop, slice_get, Option, None, Some, refl, sym, ap, ◌∙◌, arith, add-one, option_copied, is_some, not, Bor}
+use Rattle.std.specs.Prelude.{filter, is_none}
 use Rattle.std.specs.List.{range_with_len}
 use Rattle.std.proofs.Math.ListN.{drop_of_length-le}
 use Rattle.std.proofs.Math.Seq.{drop-cons}
-use Rattle.std.proofs.lemmas.List.{drop-drop}
-use Rattle.std.proofs.lemmas.List.Elements.{filter_map-append}
 use Rattle.gw_base.specs.declared.ids.CtxNum.{CtxNum}
 use Rattle.gw_table.specs.Unused.{owned}
 use Rattle.gw_reserve.specs.Owners.{choices, last_number, behind_last}

@@ -1,7 +1,6 @@
 -- The cyclic order: each index stands once in it.
 use Rattle.std.proofs.Common.{◌≡◌, ℕ, ◌+◌, ◌-◌, ◌<◌, ◌≤◌, map, length, get_or, ⊎_elim, sym, ap, ◌∙◌, arith, length-append}
 use Rattle.std.specs.Prelude.{◌≢◌, AllPairs, All}
-use Rattle.std.specs.List.{range_with_len}
 use Rattle.std.proofs.lemmas.Bool.{cases_lt}
 use Rattle.std.proofs.Math.ListN.{get_or-append}
 use Rattle.std.proofs.lemmas.List.{get_or-append_right, get_or-map, length-map}
@@ -10,18 +9,13 @@ use Rattle.gw_base.specs.declared.ids.CtxNum.{CtxNum}
 use Rattle.gw_reserve.specs.Owners.{cyclic, number_of_index}
 
 pub length-cyclic : (d n : ℕ) → d ≤ n → length (cyclic d n) ≡ n
-length-cyclic d n h =
-    length-append (range_with_len d (n - d)) (range_with_len 0 d) ∙ omega (arith, length-range_with_len d (n - d), length-range_with_len 0 d)
+length-cyclic d n h = grind (arith, length-append, length-range_with_len)
 
 pub cyclic_low : (d n p x : ℕ) → p < n - d → get_or (cyclic d n) p x ≡ d + p
-cyclic_low d n p x h =
-    let l : p < length (range_with_len d (n - d)) = omega (arith, length-range_with_len d (n - d)) in
-    get_or-append (range_with_len d (n - d)) (range_with_len 0 d) x p l ∙ get_or-range_with_len d (n - d) p x h
+cyclic_low d n p x h = grind (arith, length-range_with_len, get_or-append, get_or-range_with_len)
 
 pub cyclic_high : (d n p x : ℕ) → d ≤ n → n - d ≤ p → p < n → get_or (cyclic d n) p x ≡ p - (n - d)
-cyclic_high d n p x a h b =
-    get_or-append_right (range_with_len d (n - d)) (range_with_len 0 d) (n - d) p x (length-range_with_len d (n - d)) h
-    ∙ get_or-range_with_len 0 d (p - (n - d)) x (omega arith) ∙ omega arith
+cyclic_high d n p x a h b = grind (arith, get_or-append_right, length-range_with_len, get_or-range_with_len)
 
 -- what stands at a rank
 pub record Stands (d n p y : ℕ) : Type 0 where
@@ -35,10 +29,7 @@ below : (d n p y : ℕ) → d ≤ n → p < n → Stands d n p y → y < n
 below d n p y a b s = ⊎_elim (λ l. omega (arith, s.low l)) (λ h. omega (arith, s.high h)) (cases_lt p (n - d))
 
 apart : (d n i j x y : ℕ) → d ≤ n → i < j → j < n → Stands d n i x → Stands d n j y → x ≢ y
-apart d n i j x y a b c s t e =
-    ⊎_elim (λ l. ⊎_elim (λ k. omega (arith, s.low l, t.low k)) (λ k. omega (arith, s.low l, t.high k)) (cases_lt j (n - d)))
-    (λ l. ⊎_elim (λ k. omega (arith, s.high l, t.low k)) (λ k. omega (arith, s.high l, t.high k)) (cases_lt j (n - d)))
-    (cases_lt i (n - d))
+apart d n i j x y a b c s t e = grind arith
 
 pub indices_below : (d n : ℕ) → d ≤ n → All (λ i. i < n) (cyclic d n)
 indices_below d n a k x h = below d n k (get_or (cyclic d n) k x) a (omega (arith, length-cyclic d n a)) (stands d n k x a (omega (arith, length-cyclic d n a)))

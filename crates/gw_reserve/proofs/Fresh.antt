@@ -1,18 +1,16 @@
 -- What requests own, one after another: that it is unused, and that it keeps the limits.
-use Rattle.std.proofs.Common.{◌≡◌, ℕ, zero, suc, ◌+◌, ◌<◌, ◌≤◌, true, List, [], ◌∷◌, ◌++◌, length, get_or, take, drop, map, Option, None, Some, refl, sym, ap, subst, ◌∙◌, arith, append_assoc, append-nil, get_or-take}
-use Rattle.std.specs.Prelude.{◌≢◌, All, AllPairs, is_none, flat_map}
+use Rattle.std.proofs.Common.{◌≡◌, ℕ, ◌+◌, ◌<◌, ◌≤◌, true, List, [], ◌∷◌, ◌++◌, length, get_or, take, drop, map, Option, None, Some, refl, sym, ap, subst, ◌∙◌, arith, get_or-take}
+use Rattle.std.specs.Prelude.{◌≢◌, All, AllPairs, is_none}
 use Rattle.std.proofs.lemmas.List.{length-take}
-use Rattle.std.proofs.lemmas.List.Concat.{flat_map-append}
 use Rattle.std.proofs.lemmas.List.Elements.{All-filter, filter_passes}
 use Rattle.std.proofs.lemmas.List.Kept.{AllPairs-filter}
 use Rattle.gw_base.specs.declared.ids.CtxNum.{CtxNum}
-use Rattle.gw_reserve.specs.Ids.{Ids}
 use Rattle.gw_msg.specs.declared.message.Request.{Request}
 use Rattle.gw_table.specs.Maps.{Maps, term, ctx}
 use Rattle.gw_table.specs.Reserved.{slot_name}
 use Rattle.gw_table.specs.Unused.{AreUnused}
 use Rattle.gw_reserve.specs.declared.owners.Cursors.{Cursors}
-use Rattle.gw_reserve.specs.Owners.{cyclic, number_of_index, free_numbers, free_slots, number_choices, slot_choices, ids_of, owners_of, owners, owned_numbers, owned_slots, AreFresh, AreWithin}
+use Rattle.gw_reserve.specs.Owners.{cyclic, number_of_index, free_numbers, free_slots, number_choices, slot_choices, owners_of, owners, owned_numbers, owned_slots, AreFresh, AreWithin}
 use Rattle.gw_reserve.proofs.Cyclic.{indices_below, indices_apart, numbers_within, numbers_apart}
 use Rattle.gw_reserve.proofs.Choices.{owned_choices}
 use Rattle.gw_reserve.proofs.Taken.{take-plus}

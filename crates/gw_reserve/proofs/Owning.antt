@@ -8,7 +8,7 @@ use Rattle.gw_msg.specs.declared.message.Request.{Request}
 use Rattle.gw_table.specs.Maps.{Maps}
 use Rattle.gw_table.specs.Unused.{owned}
 use Rattle.gw_reserve.specs.declared.owners.Cursors.{Cursors}
-use Rattle.gw_reserve.specs.Owned.{OwnedAction, is_adding, paired_actions, with_owned}
+use Rattle.gw_reserve.specs.Owned.{is_adding, paired_actions, with_owned}
 use Rattle.gw_reserve.specs.Owners.{choices, chosen, all_commands, all_adding, taken_by, ids_of, last_number, behind_last, new_cursors}
 use Rattle.gw_reserve.specs.Reservations.{Reserving, numbers_left, slots_left}
 use Rattle.gw_reserve.proofs.Choices.{owned_choices}

@@ -1,5 +1,5 @@
 -- Ranks that are passed by at once.
-use Rattle.std.proofs.Common.{◌≡◌, ℕ, zero, suc, ◌+◌, ◌<◌, ◌≤◌, Bool, true, false, List, length, get_or, drop, filter, Option, None, Some, is_some, refl, ap, ◌∙◌, arith}
+use Rattle.std.proofs.Common.{◌≡◌, ℕ, zero, suc, ◌+◌, ◌<◌, ◌≤◌, Bool, true, false, List, length, get_or, drop, filter, Option, is_some, refl, ap, ◌∙◌, arith}
 use Rattle.std.specs.Prelude.{is_none}
 use Rattle.std.proofs.lemmas.List.{get_or-map}
 use Rattle.gw_base.specs.declared.ids.CtxNum.{CtxNum}
@@ -19,8 +19,7 @@ all_passed test l d rank (suc n) h each =
     ∙ passed test l (filter test (drop rank l)) (rank + n) (get_or l (rank + n) d) d (omega arith) refl (each n (omega arith)) (all_passed test l d rank n (omega arith) (λ k s. each k (omega arith)))
 
 there : {A : Type 0} (o : Option A) → is_some o ≡ true → is_none o ≡ false
-there None h = cc
-there (Some x) h = refl
+there o h = grind arith
 
 module _ (m : Maps) (o : Order) (start : o.start ≤ o.limit) (rank from n : ℕ) (inside : rank + n ≤ o.limit) (rising : (k : ℕ) → k < n → get_or (whole_order o) (rank + k) 0 ≡ from + k) where
   pub numbers_passed : ((k : ℕ) → k < n → is_some (ctx m (number (from + k + 1))) ≡ true) → numbers_from m o (rank + n) ≡ numbers_from m o rank

@@ -1,5 +1,5 @@
 -- What items take of a list, one after another.
-use Rattle.std.proofs.Common.{◌≡◌, ℕ, zero, suc, ◌+◌, Bool, true, false, cond, List, [], ◌∷◌, ◌++◌, length, take, drop, slice_get, Option, None, Some, refl, sym, ap, ◌∙◌, arith, append_assoc, append-nil}
+use Rattle.std.proofs.Common.{◌≡◌, ℕ, zero, suc, ◌+◌, Bool, true, false, cond, List, [], ◌∷◌, ◌++◌, length, take, drop, slice_get, Option, None, refl, sym, ap, ◌∙◌, arith, append_assoc, append-nil}
 use Rattle.std.specs.Prelude.{if◌then◌else◌, option_to_list, filter}
 use Rattle.std.proofs.lemmas.List.{drop-drop}
 use Rattle.gw_base.specs.Choose.{is_choose}
@@ -66,15 +66,7 @@ one_choice_more k j free = let e : suc k + j ≡ suc (k + j) = omega arith in ap
 
 pairs_slots : (cs : List Command) (free : List ℕ) (more : List (Option ℕ)) (j : ℕ) → paired_commands (taken_by is_adding cs free ++ more) cs ≡ with_slots (choices (adding cs + j) free) cs
 pairs_slots [] free more j = refl
-pairs_slots (c ∷ cs) free more j = by (is_adding c) (pairs_slots cs free more j) (pairs_slots cs (drop 1 free) more j)
-  where
-    by : (b : Bool) → paired_commands (taken_by is_adding cs free ++ more) cs ≡ with_slots (choices (adding cs + j) free) cs → paired_commands (taken_by is_adding cs (drop 1 free) ++ more) cs ≡ with_slots (choices (adding cs + j) (drop 1 free)) cs
-        → paired_commands ((if b then slice_get free 0 else None) ∷ taken_by is_adding cs (if b then drop 1 free else free) ++ more) (c ∷ cs)
-        ≡ (if b then first_owned (choices (length (cond b (c ∷ filter is_adding cs) (filter is_adding cs)) + j) free) else None, c) ∷ with_slots (if b then later_owned (choices (length (cond b (c ∷ filter is_adding cs) (filter is_adding cs)) + j) free) else choices (length (cond b (c ∷ filter is_adding cs) (filter is_adding cs)) + j) free) cs
-    by false e f = ap (λ l. (None, c) ∷ l) e
-    by true e f =
-        ap (λ l. (slice_get free 0, c) ∷ l) f
-        ∙ ap (λ (p : List (Option ℕ)). (first_owned p, c) ∷ with_slots (later_owned p) cs) (sym (one_choice_more (adding cs) j free))
+pairs_slots (c ∷ cs) free more j = grind (arith, pairs_slots cs free more j, pairs_slots cs (drop 1 free) more j, one_choice_more)
 
 behind_slots : (cs : List Command) (free : List ℕ) (j : ℕ) → slots_behind (choices (adding cs + j) free) cs ≡ choices j (drop (adding cs) free)
 behind_slots [] free j = let e : 0 + j ≡ j = omega arith in ap (λ (n : ℕ). choices n free) e

@@ -1,5 +1,5 @@
 -- Tables that are changed in place, with one more write.
-use Rattle.std.proofs.Common.{nat_eq, ◌≡◌, ℕ, Bool, true, false, cond, List, [], ◌∷◌, ◌++◌, bytes_eq, Option, None, Some, is_some, refl, sym, ap, subst, ◌∙◌}
+use Rattle.std.proofs.Common.{nat_eq, ◌≡◌, ℕ, Bool, true, false, cond, List, [], ◌∷◌, ◌++◌, bytes_eq, Option, None, Some, Result, Ok, Err, is_some, refl, sym, ap, subst, ◌∙◌}
 use Rattle.std.specs.Prelude.{◌||◌}
 use Rattle.std.specs.FinMap as finite
 use Rattle.gw_base.specs.declared.ids.CtxNum.{CtxNum}
@@ -7,7 +7,7 @@ use Rattle.gw_base.specs.declared.key.Key.{Key}
 use Rattle.gw_base.specs.declared.key.Key.TheVariants.{Term, Ctx, Whole}
 use Rattle.gw_base.specs.Keys.{same_key, has}
 use Rattle.gw_term.specs.declared.record.Termination.{Termination}
-use Rattle.gw_ctx.specs.Contexts.{ContextRecord}
+use Rattle.gw_ctx.specs.Contexts.{ContextRecord, joined}
 use Rattle.gw_table.specs.declared.undo_log.Write.{Write}
 use Rattle.gw_table.specs.declared.undo_log.Write.TheVariants.{OfTerm, OfCtx}
 use Rattle.gw_table.specs.declared.place.Place.{Place}
@@ -15,13 +15,16 @@ use Rattle.gw_table.specs.declared.place.Place.TheVariants.{Empty, Here, Out}
 use Rattle.gw_table.specs.declared.row.Found.{Found}
 use Rattle.gw_table.specs.declared.row.Found.TheVariants.{Logged, Unlogged}
 use Rattle.gw_table.specs.Found.{IsFound}
-use Rattle.gw_table.specs.Maps.{term, ctx}
+use Rattle.gw_table.specs.Joining.{HasJoined, HasJoinedAt, with_member_if}
+use Rattle.std.specs.Result.{IfOk, OnErr}
+use Rattle.gw_base.specs.declared.fault.NoMemory.{NoMemory}
+use Rattle.gw_table.specs.Maps.{term, ctx, put_ctx, context_of}
 use Rattle.gw_table.specs.UndoLog.{keys_written, undone, IsInPlace}
 use Rattle.gw_table.specs.Stored.{Stored, visible, has_left, maps_of, is_ready, put_term_place, put_ctx_place, AreReady, KeepReady, NoOtherReady}
 use Rattle.gw_table.proofs.Moved.{has-pushed}
 use Rattle.gw_base.proofs.NameTests.{same_name, same_number}
 use Rattle.gw_base.proofs.NamesInLists.{or_left}
-use Rattle.gw_table.proofs.Places.{same_stored, ctx-maps_of, got_term, got_ctx, maps-put_term_place, maps-put_ctx_place, in-put_term, in-put_ctx}
+use Rattle.gw_table.proofs.Places.{same_ctx_place, same_stored, ctx-maps_of, got_term, got_ctx, maps-put_term_place, maps-put_ctx_place, in-put_term, in-put_ctx}
 use Rattle.gw_table.proofs.Undone.{keys_more, undone_term, undone_ctx, undone_term_again, undone_ctx_again}
 
 pub same_in_place : (start old now : Stored) (ws vs : List Write) → now ≡ old → vs ≡ ws → IsInPlace start old ws → IsInPlace start now vs
@@ -174,3 +177,20 @@ put_back s n c e = same_stored (put_ctx_place (put_ctx_place s n Empty) n (Here 
     at : (q : CtxNum) (b : Bool) → nat_eq q.0 n.0 ≡ b → cond b (Some (Here c)) (cond b (Some Empty) (finite.get s.contexts q.0)) ≡ finite.get s.contexts q.0
     at q true f = here_of (finite.get s.contexts q.0) c (e ∙ ctx-maps_of s n ∙ ap (λ (m : CtxNum). visible (finite.get s.contexts m.0)) (sym (same_number q n f)))
     at q false f = refl
+
+-- ---- who joins a context in its place
+
+pub joined_there : (keys : List Key) (n : CtxNum) (t : List ℕ) (s after : Stored) (p w : Place ContextRecord) (b : Bool) → finite.get s.contexts n.0 ≡ Some p → after ≡ put_ctx_place s n w → HasJoined keys (Ctx n) t p b w → HasJoinedAt keys n t s b after
+joined_there keys n t s after p w false stands e h = e ∙ ap (put_ctx_place s n) h ∙ same_ctx_place s n p stands
+joined_there keys n t s after p w true stands e h =
+    (h.0, (h.1.0, ctx-maps_of s n ∙ ap (λ o. visible o) (stands ∙ ap (λ (y : Place ContextRecord). Some y) h.1.1), e ∙ ap (put_ctx_place s n) h.1.2))
+
+pub maps-joined : (keys : List Key) (n : CtxNum) (t : List ℕ) (s after : Stored) (b : Bool) → HasJoinedAt keys n t s b after → maps_of after ≡ with_member_if b n t (maps_of s)
+maps-joined keys n t s after false h = ap (λ (x : Stored). maps_of x) h
+maps-joined keys n t s after true h =
+    ap (λ (x : Stored). maps_of x) h.1.2 ∙ maps-put_ctx_place s n (Here (joined t h.1.0)) ∙ ap (λ (o : Option ContextRecord). put_ctx (maps_of s) n (Some (joined t (context_of o)))) (sym h.1.1)
+
+pub joined_in_place : (start now after : Stored) (ws : List Write) → IsInPlace start now ws → (n : CtxNum) (t : List ℕ) (r : Result Bool NoMemory) → IfOk r (λ b. HasJoinedAt (keys_written ws) n t now b after) → OnErr r (after ≡ now) → IsInPlace start after ws
+joined_in_place start now after ws i n t (Ok false) h e = subst (λ (s : Stored). IsInPlace start s ws) (sym h) i
+joined_in_place start now after ws i n t (Ok true) h e = subst (λ (s : Stored). IsInPlace start s ws) (sym h.1.2) (wrote_ctx_again start now ws i n (Here (joined t h.1.0)) refl h.0)
+joined_in_place start now after ws i n t (Err x) h e = subst (λ (s : Stored). IsInPlace start s ws) (sym e) i

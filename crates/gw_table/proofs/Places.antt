@@ -75,6 +75,13 @@ maps-put_ctx_place s n p = same_maps (maps_of (put_ctx_place s n p)) (put_ctx (m
     (λ q. ctx-maps_of (put_ctx_place s n p) q ∙ ap (λ o. visible o) (got_ctx s n p q) ∙ sym (visible-cond (nat_eq q.0 n.0) p (finite.get s.contexts q.0))
     ∙ ap (cond (nat_eq q.0 n.0) (visible (Some p))) (sym (ctx-maps_of s q)) ∙ sym (ctx-put_ctx (maps_of s) n (visible (Some p)) q))
 
+pub same_ctx_place : (s : Stored) (n : CtxNum) (p : Place ContextRecord) → finite.get s.contexts n.0 ≡ Some p → put_ctx_place s n p ≡ s
+same_ctx_place s n p e = same_stored (put_ctx_place s n p) s (λ t. refl) (λ q. got_ctx s n p q ∙ at q (nat_eq q.0 n.0) refl)
+  where
+    at : (q : CtxNum) (b : Bool) → nat_eq q.0 n.0 ≡ b → cond b (Some p) (finite.get s.contexts q.0) ≡ finite.get s.contexts q.0
+    at q true h = sym e ∙ ap (λ (x : CtxNum). finite.get s.contexts x.0) (sym (same_number q n h))
+    at q false h = refl
+
 -- a place of an entry, or of none
 pub shown_placed : {A : Type 0} (o : Option A) → visible (Some (placed o)) ≡ o
 shown_placed None = refl

@@ -1,7 +1,7 @@
 -- Marks of entries, kept through each change of a place.
 use Rattle.std.proofs.Common.{◌≡◌, ℕ, ◌<◌, Bool, true, false, cond, List, Option, Some, is_some, bytes_eq, nat_eq, eq-eqb, eqb-true, refl, sym, ap, subst, ◌∙◌}
 use Rattle.gw_base.specs.declared.ids.CtxNum.{CtxNum}
-use Rattle.gw_base.proofs.NameTests.{same_name, name_itself}
+use Rattle.gw_base.proofs.NameTests.{same_name, same_number, name_itself}
 use Rattle.gw_ctx.specs.Contexts.{ContextRecord}
 use Rattle.gw_bits.specs.BitSets.{has_bit}
 use Rattle.gw_term.specs.declared.record.Termination.{Termination}
@@ -52,6 +52,16 @@ in_use-put_still numbers slots m t o still in_use = record {
     either : (s : ℕ) (b : Bool) → bytes_eq (slot_name s) t ≡ b → is_some (term m (slot_name s)) ≡ true → is_some (cond b o (term m (slot_name s))) ≡ true
     either s true e h = still (ap (λ (x : List ℕ). is_some (term m x)) (sym (same_name (slot_name s) t e)) ∙ h)
     either s false e h = h
+
+pub in_use-put_ctx_still : (numbers slots : List ℕ) (m : Maps) (n : CtxNum) (o : Option ContextRecord) → (is_some (ctx m n) ≡ true → is_some o ≡ true) → AreSet numbers slots m → AreSet numbers slots (put_ctx m n o)
+in_use-put_ctx_still numbers slots m n o still in_use = record {
+  contexts = λ k h. ap (λ x. is_some x) (ctx-put_ctx m n o (number k)) ∙ either k (nat_eq k n.0) refl (in_use.contexts k h);
+  terms = λ s l h. ap (λ x. is_some x) (term-put_ctx m n o (slot_name s)) ∙ in_use.terms s l h;
+}
+  where
+    either : (k : ℕ) (b : Bool) → nat_eq k n.0 ≡ b → is_some (ctx m (number k)) ≡ true → is_some (cond b o (ctx m (number k))) ≡ true
+    either k true e h = still (ap (λ (x : CtxNum). is_some (ctx m x)) (sym (same_number (number k) n e)) ∙ h)
+    either k false e h = h
 
 -- ---- one place
 

@@ -5,6 +5,7 @@ pub mod Folds
 pub mod Found
 pub mod Free
 pub mod Gone
+pub mod Joining
 pub mod KeyLists
 pub mod Locality
 pub mod Maps

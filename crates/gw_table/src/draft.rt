@@ -4,7 +4,7 @@ ghost use Rattle.std.specs.Prelude.{◌≡◌, ◌<◌, None, true, false, lengt
 ghost use Rattle.gw_base.specs.declared.key.Key.{Key};
 ghost use Rattle.gw_base.specs.declared.key.Key.TheVariants.{Term, Ctx};
 ghost use Rattle.gw_base.specs.NameLists.{is_in};
-ghost use Rattle.gw_ctx.specs.Contexts.{joined};
+ghost use Rattle.gw_table.specs.Joining.{with_member_if};
 ghost use Rattle.gw_table.specs.Maps.{term, ctx, put_term, put_ctx, names, numbers, members_of};
 ghost use Rattle.gw_table.specs.Members.{put_service, with_member, without_member};
 ghost use Rattle.gw_table.specs.UndoLog.{keys_written, undone};
@@ -14,26 +14,14 @@ ghost use Rattle.gw_table.specs.Stored.{maps_of, NoneIsOut, AreReady, KeepReady,
 use crate::free::Target;
 use crate::in_place::InPlace;
 use crate::part::Part;
+use crate::row::joined;
 use crate::tables::Tables;
 use crate::undo_log::UndoLog;
 use gw_base::{CtxNum, NoMemory, Service, TermName};
-use gw_ctx::{Context, JoinFault};
+use gw_ctx::Context;
 use gw_term::Termination;
 use std::alloc::Global;
 use std::marker::Model;
-
-/// The name joins the context as its last member. The caller knows that there is room.
-fn joined(context: &mut Context, name: TermName, limit: usize) -> Result<(), NoMemory>
-    requires new { is_in name context.old.members ≡ false }
-    requires room { length context.old.members < limit }
-    ensures { OnOk result (context.new ≡ joined name context.old) }
-{
-    match context.join(name, limit) {
-        Ok(()) => Ok(()),
-        Err(JoinFault::Full) => unreachable!(),
-        Err(JoinFault::NoMemory) => Err(NoMemory),
-    }
-}
 
 /// What a draft works on.
 #[derive(Drop)]
@@ -199,9 +187,28 @@ impl Draft {
         self.set_term(*name, Some(termination))
     }
 
+    /// The name joins the context in its place, if the draft is of whole tables in which it was written before. Answers
+    /// whether it has joined; else nothing has changed.
+    fn join_in_place(
+        &mut self,
+        number: CtxNum,
+        name: TermName,
+        limit: usize,
+    ) -> Result<bool, NoMemory>
+        requires new { is_in name (members_of (ctx self.old.maps number)) ≡ false }
+        requires room { length (members_of (ctx self.old.maps number)) < limit }
+        ensures maps { IfOk result (λ has_joined. self.new.maps ≡ with_member_if has_joined number name self.old.maps) }
+        ensures keys { self.new.keys ≡ self.old.keys }
+    {
+        match &mut self.backing {
+            Backing::OfPart(_) => Ok(false),
+            Backing::OfTables(backing) => backing.join(number, name, limit),
+        }
+    }
+
     /// The name joins the context as its last member. A context comes into being with its first. The caller knows
     /// that the number is one of the draft's keys, that the name is no member, and that there are fewer members than
-    /// `limit`. It takes the context out and sets it again.
+    /// `limit`. It takes the context out and sets it again, unless it was written before in whole tables.
     ///
     /// # Errors
     ///
@@ -219,6 +226,9 @@ impl Draft {
         ensures maps { OnOk result (self.new.maps ≡ with_member number name self.old.maps) }
         ensures keys { self.new.keys ≡ self.old.keys }
     {
+        if self.join_in_place(number, name, limit)? {
+            return Ok(());
+        }
         let mut context = match self.take_ctx(number)? {
             Some(context) => context,
             None => Context::new(alloc),

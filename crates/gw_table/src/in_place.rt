@@ -1,7 +1,9 @@
 //! Tables that are changed in place, with what stood there before.
 
-ghost use Rattle.std.specs.Prelude.{◌≡◌, None, IfOk, OnOk, OnErr};
-ghost use Rattle.gw_table.specs.Maps.{term, ctx, put_term, put_ctx};
+ghost use Rattle.std.specs.Prelude.{◌≡◌, ◌<◌, false, length, None, IfOk, OnOk, OnErr};
+ghost use Rattle.gw_base.specs.NameLists.{is_in};
+ghost use Rattle.gw_table.specs.Joining.{with_member_if};
+ghost use Rattle.gw_table.specs.Maps.{ctx, put_term, put_ctx, members_of};
 ghost use Rattle.gw_table.specs.UndoLog.{keys_written, undone};
 ghost use Rattle.gw_table.specs.Parts.{Over, start_of};
 ghost use Rattle.gw_table.specs.Stored.{maps_of, NoneIsOut, AreReady, KeepReady, NoOtherReady};
@@ -136,6 +138,22 @@ impl InPlace {
                 Ok(Some(context))
             }
         }
+    }
+
+    /// The name joins the context with a number, in its place, if it was written before. Answers whether it has joined;
+    /// else nothing has changed.
+    pub(crate) fn join(
+        &mut self,
+        number: CtxNum,
+        name: TermName,
+        limit: usize,
+    ) -> Result<bool, NoMemory>
+        requires new { is_in name (members_of (ctx self.old.maps number)) ≡ false }
+        requires room { length (members_of (ctx self.old.maps number)) < limit }
+        ensures maps { IfOk result (λ has_joined. self.new.maps ≡ with_member_if has_joined number name self.old.maps) }
+        ensures keys { self.new.keys ≡ self.old.keys }
+    {
+        self.tables.join(number, name, limit, &self.writes)
     }
 
     /// The tables as they are, and what stood there before.

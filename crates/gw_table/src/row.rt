@@ -1,16 +1,21 @@
 //! A place in the maps of tables, with a guide to where its key was logged.
 
-ghost use Rattle.std.specs.Prelude.{◌≡◌, true, Some, is_some, option_copied};
+ghost use Rattle.std.specs.Prelude.{◌≡◌, ◌<◌, true, false, length, Some, is_some, IfOk, OnOk, OnErr, option_copied};
 ghost use Rattle.std.specs.Bool.{OnTrue};
 ghost use Rattle.gw_base.specs.Keys.{has};
+ghost use Rattle.gw_base.specs.NameLists.{is_in};
+ghost use Rattle.gw_ctx.specs.Contexts.{joined};
 ghost use Rattle.gw_table.specs.Found.{IsFound};
+ghost use Rattle.gw_table.specs.Joining.{HasJoined};
+ghost use Rattle.gw_table.specs.Maps.{members_of};
 ghost use Rattle.gw_table.specs.UndoLog.{keys_written};
 ghost use Rattle.gw_table.specs.Stored.{visible};
 
 use crate::place::Place;
 use crate::rows::Guide;
 use crate::undo_log::Write;
-use gw_base::Key;
+use gw_base::{Key, NoMemory, TermName};
+use gw_ctx::{Context, JoinFault};
 use std::marker::Model;
 use std::mem;
 
@@ -50,6 +55,20 @@ fn is_at(writes: &[Write], at: usize, key: &Key) -> bool
     ensures { OnTrue result (has (keys_written writes.now) key.now ≡ true) }
 {
     at < writes.len() && writes[at].is_of(key)
+}
+
+/// The name joins the context as its last member. The caller knows that there is room.
+pub(crate) fn joined(context: &mut Context, name: TermName, limit: usize) -> Result<(), NoMemory>
+    requires new { is_in name context.old.members ≡ false }
+    requires room { length context.old.members < limit }
+    ensures ok { OnOk result (context.new ≡ joined name context.old) }
+    ensures err { OnErr result (context.new ≡ context.old) }
+{
+    match context.join(name, limit) {
+        Ok(()) => Ok(()),
+        Err(JoinFault::Full) => unreachable!(),
+        Err(JoinFault::NoMemory) => Err(NoMemory),
+    }
 }
 
 impl<T> Row<T> {
@@ -137,6 +156,33 @@ impl<T> Row<T> {
         }
         self.logged = next_of(writes);
         Found::Unlogged(before)
+    }
+}
+
+impl Row<Context> {
+    /// The name joins the context that stands here, in its place, if the key is logged. Answers whether it has joined;
+    /// else, and out of memory, nothing has changed. The caller knows that there is room.
+    pub(crate) fn join(
+        &mut self,
+        name: TermName,
+        limit: usize,
+        writes: &[Write],
+        key: &Key,
+    ) -> Result<bool, NoMemory>
+        requires new { is_in name (members_of (visible (Some self.old))) ≡ false }
+        requires room { length (members_of (visible (Some self.old))) < limit }
+        ensures joined { IfOk result (λ has_joined. HasJoined (keys_written writes.now) key.now name self.old has_joined self.new) }
+        ensures err { OnErr result (self.new ≡ self.old) }
+        ensures still { is_some (visible (Some self.new)) ≡ is_some (visible (Some self.old)) }
+    {
+        let is_logged = self.is_logged(writes, key);
+        match &mut self.place {
+            Place::Here(context) if is_logged => {
+                joined(context, name, limit)?;
+                Ok(true)
+            }
+            _ => Ok(false),
+        }
     }
 }
 

@@ -1,9 +1,11 @@
 //! Single places of tables that are written.
 
-ghost use Rattle.std.specs.Prelude.{◌≡◌, IfOk, OnOk, OnErr};
+ghost use Rattle.std.specs.Prelude.{◌≡◌, ◌<◌, false, length, IfOk, OnOk, OnErr};
+ghost use Rattle.gw_base.specs.NameLists.{is_in};
 ghost use Rattle.gw_base.specs.declared.key.Key.TheVariants.{Term, Ctx};
 ghost use Rattle.gw_table.specs.Found.{IsFound};
-ghost use Rattle.gw_table.specs.Maps.{term, ctx};
+ghost use Rattle.gw_table.specs.Joining.{HasJoinedAt};
+ghost use Rattle.gw_table.specs.Maps.{term, ctx, members_of};
 ghost use Rattle.gw_table.specs.UndoLog.{keys_written};
 ghost use Rattle.gw_table.specs.Stored.{maps_of, put_term_place, put_ctx_place};
 
@@ -62,5 +64,26 @@ impl Tables {
             .insert(number.0, Row::logged_in(writes, place))?;
         set_number(&mut self.numbers, number, stands);
         Ok(Found::Unlogged(None))
+    }
+
+    /// The name joins the context with a number, in its place, if there is one and the number is logged in the list of
+    /// writes. Answers whether it has joined; else, and out of memory, nothing has changed. The caller knows that there
+    /// is room.
+    pub(crate) fn join(
+        &mut self,
+        number: CtxNum,
+        name: TermName,
+        limit: usize,
+        writes: &[Write],
+    ) -> Result<bool, NoMemory>
+        requires new { is_in name (members_of (ctx (maps_of self.old) number)) ≡ false }
+        requires room { length (members_of (ctx (maps_of self.old) number)) < limit }
+        ensures joined { IfOk result (λ has_joined. HasJoinedAt (keys_written writes.now) number name self.old has_joined self.new) }
+        ensures err { OnErr result (self.new ≡ self.old) }
+    {
+        let Some(row) = self.contexts.get_mut(&number.0) else {
+            return Ok(false);
+        };
+        row.join(name, limit, writes, &Key::Ctx(number))
     }
 }

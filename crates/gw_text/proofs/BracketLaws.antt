@@ -1,4 +1,5 @@
 -- Brackets as they are scanned are brackets as they are defined.
+use Rattle.std.proofs.lemmas.Grind.{common_steps}
 use Rattle.std.proofs.Common.{◌≡◌, inl, inr, ℕ, zero, suc, ◌-◌, ◌<◌, Bool, true, false, cond, ◌==◌, List, [], ◌∷◌, ◌++◌, length, get_or, take, drop, Option, Some, None, Ok, Err, refl, ap, sym, subst, ◌∙◌, append_assoc, length-append, arith}
 use Rattle.std.specs.List.{concat}
 use Rattle.std.proofs.lemmas.List.{take-append-drop, take_at, drop_at, length-take}
@@ -18,9 +19,9 @@ use Rattle.gw_text.specs.declared.fault.ScanFault.TheVariants.{Unexpected}
 use Rattle.gw_text.proofs.SpaceLemmas.{space_is, space_len-le, space_again}
 use Rattle.gw_text.proofs.SpacePieces.{space_pieces}
 use Rattle.gw_text.proofs.Skips.{skip_space, skip_stays}
-use Rattle.gw_text.proofs.Signs.{some_is, same_byte}
-use Rattle.gw_text.proofs.Leaves.{found_ok, run_reads, eq_zero}
-use Rattle.gw_text.proofs.Links.{is_another, space_bytes, sep_ends, byte_apart_space}
+use Rattle.gw_text.proofs.Signs.{some_is}
+use Rattle.gw_text.proofs.Leaves.{found_ok, run_reads}
+use Rattle.gw_text.proofs.Links.{is_another, sep_ends}
 use Rattle.gw_text.proofs.ReadsUp.{ReadsUp, Same, Any}
 use Rattle.gw_text.proofs.OctetsScans.{quoted_sound, quoted_again, quoted_some}
 use Rattle.gw_text.proofs.RunLemmas.{whole_tail}
@@ -125,15 +126,8 @@ byte_len b bs is = rw is refl
 quote_len : (text tail : List ℕ) (n : ℕ) → text ≡ quote_mark ∷ tail → quoted_len text ≡ Some n → piece_len text ≡ Some n
 quote_len text tail n first e = ap piece_len first ∙ ap quoted_len (sym first) ∙ e
 
-bracket_apart : (b : ℕ) → is_space_start b ≡ true → is_bracket_byte b ≡ false
-bracket_apart = space_bytes (λ c. is_bracket_byte c ≡ false) refl refl refl refl refl
-
 space_piece : (b : ℕ) (bs : List ℕ) → is_space_start b ≡ true → 0 < space_len (b ∷ bs) → piece_len (b ∷ bs) ≡ Some (space_len (b ∷ bs))
-space_piece b bs start some =
-    let safe : is_bracket_byte b ≡ false = bracket_apart b start in
-    let quote : b == quote_mark ≡ false = is_another b quote_mark is_space_start refl start in
-    let n : space_len (b ∷ bs) == 0 ≡ false = eq_zero (space_len (b ∷ bs)) some in
-    rw (safe, quote, n) refl
+space_piece b bs start some = grind (arith, common_steps)
 
 over_cases : (b : ℕ) (bs : List ℕ) (t z : Bool) → is_space_start b ≡ t → space_len (b ∷ bs) == 0 ≡ z → bracket_rest (b ∷ bs) ≡ bracket_rest (drop (space_len (b ∷ bs)) (b ∷ bs))
 over_cases b bs t true is none = ap (λ (n : ℕ). bracket_rest (drop n (b ∷ bs))) (sym (eqb-true (space_len (b ∷ bs)) 0 none))
@@ -163,22 +157,18 @@ piece_over piece more (inr (inr s)) = over_space (piece ++ more) ∙ ap bracket_
 
 pieces_over : (pieces : List (List ℕ)) (rest : List ℕ) → Each IsBracketPiece pieces → bracket_rest (concat pieces ++ right_bracket ∷ rest) ≡ Some rest
 pieces_over [] rest each = bracket_closes (right_bracket ∷ rest) refl
-pieces_over (p ∷ ps) rest each =
-    ap bracket_rest (append_assoc p (concat ps) (right_bracket ∷ rest)) ∙ piece_over p (concat ps ++ right_bracket ∷ rest) each.0 ∙ pieces_over ps rest each.1
+pieces_over (p ∷ ps) rest each = grind (arith, pieces_over ps rest each.1, append_assoc, piece_over)
 
 -- no piece begins with the bracket that closes
 piece_other : (piece more : List ℕ) → IsBracketPiece piece → begins (is_byte right_bracket) (piece ++ more) ≡ false
-piece_other piece more (inl p) = ap (λ (x : List ℕ). begins (is_byte right_bracket) (x ++ more)) p.1 ∙ is_another p.0 right_bracket is_bracket_byte refl p.2
-piece_other piece more (inr (inl q)) = ap (λ (x : List ℕ). begins (is_byte right_bracket) (x ++ more)) (q.split ∙ ap (λ (x : List ℕ). x ++ q.back) q.first)
-piece_other piece more (inr (inr s)) = sep_ends (is_byte right_bracket) (byte_apart_space right_bracket refl) piece more s
+piece_other piece more h = grind (arith, common_steps, sep_ends)
 
 first_other : (pieces : List (List ℕ)) (more : List ℕ) → 0 < length pieces → Each IsBracketPiece pieces → begins (is_byte right_bracket) (concat pieces ++ more) ≡ false
 first_other [] more some each = absurd (omega arith)
 first_other (p ∷ ps) more some each = ap (begins (is_byte right_bracket)) (append_assoc p (concat ps) more) ∙ piece_other p (concat ps ++ more) each.0
 
 some_pieces : (pieces : List (List ℕ)) (text rest : List ℕ) → text ≡ concat pieces ++ right_bracket ∷ rest → begins (is_byte right_bracket) text ≡ false → 0 < length pieces
-some_pieces [] text rest whole is = let clash : true ≡ false = sym (ap (begins (is_byte right_bracket)) whole ∙ same_byte right_bracket) ∙ is in absurd cc
-some_pieces (p ∷ ps) text rest whole is = omega arith
+some_pieces pieces text rest whole is = grind (arith, common_steps)
 
 -- ---- brackets
 

@@ -3,7 +3,7 @@ use denote.Param.Members.{Mut}
 use denote.Ref.{Bor}
 use Rattle.std.specs.declared.iter.TakeWhile.{TakeWhile}
 use Rattle.std.specs.declared.slice.Iter.{Iter}
-use Rattle.std.proofs.Common.{◌≡◌, ℕ, suc, ◌+◌, Bool, false, cond, List, [], ◌∷◌, length, refl, ap, ◌∙◌, arith}
+use Rattle.std.proofs.Common.{◌≡◌, ℕ, Bool, false, List, [], ◌∷◌, length, refl, ◌∙◌, arith}
 use Rattle.std.specs.Fn.{CalledAt}
 use Rattle.std.specs.Iterator.{Drains}
 use Rattle.std.specs.Iterator.Adapters.{take_while_source, take_while_done, take_while_callee, take_while_steps}
@@ -18,9 +18,7 @@ use Rattle.gw_text.specs.Runs.{run_len}
 
 run_is_prefix : (p : ℕ → Bool) (text : List ℕ) → prefix_len p text ≡ run_len p text
 run_is_prefix p [] = refl
-run_is_prefix p (b ∷ bs) =
-    let more : 1 + prefix_len p bs ≡ suc (run_len p bs) = omega (arith, run_is_prefix p bs) in
-    ap (λ n. cond (p b) n 0) more
+run_is_prefix p (b ∷ bs) = grind (arith, run_is_prefix p bs)
 
 -- how many a `take_while` over the text counts, where the closure is the test of the class
 pub counted_run : {F : Type 0} {s : TakeWhile (Iter ℕ) F} {g : Mut F (Bor (Bor ℕ) × Unit {0}) Bool} {f : F} (p : ℕ → Bool) (text : List ℕ) (n : ℕ)

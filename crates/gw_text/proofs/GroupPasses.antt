@@ -121,10 +121,7 @@ word_ends levels before rest behind v first ends = grind (arith, mark_unsafe, ap
 pub pieces_passed : (limit k levels : ℕ) (before : Before) (p : Pieces) (behind : List ℕ) → AreValid levels before p → levels + suc k ≡ limit → NoMore is_safe behind
     → group_rest limit (place (suc k) before) (text_of p ++ behind) ≡ group_rest limit (place (suc k) (after before p)) behind
 pieces_passed limit k levels before nothing behind v deep ends = refl
-pieces_passed limit k levels before (space span rest) behind v deep ends =
-    ap (group_rest limit (place (suc k) before)) (append_assoc span (text_of rest) behind)
-    ∙ space_passed limit k before span (text_of rest ++ behind) v.0
-    ∙ pieces_passed limit k levels before rest behind v.1 deep ends
+pieces_passed limit k levels before (space span rest) behind v deep ends = grind (arith, pieces_passed limit k levels before rest behind v.1 deep ends, append_assoc, space_passed)
 pieces_passed limit k levels before (quoted span rest) behind v deep ends =
     let more : List ℕ = text_of rest ++ behind in
     ap (group_rest limit (place (suc k) before)) (append_assoc span (text_of rest) behind)

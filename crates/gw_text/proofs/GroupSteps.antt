@@ -73,12 +73,8 @@ octets_taken limit depth inner next n (Some ends) room is e =
 
 brace_taken : (limit depth : ℕ) (before : Before) (inner : List ℕ) (next : Place) (n : ℕ) → depth < limit → brace_at depth before inner ≡ Ok (next, n) → Taken limit depth before (left_brace ∷ inner) (drop n (left_brace ∷ inner)) next
 brace_taken limit depth OctetsWord inner next n room e = octets_taken limit depth inner next n (octets_ends inner) room refl e
-brace_taken limit depth Equals inner next n room e =
-    ok_parts (Taken limit depth Equals (left_brace ∷ inner) (drop n (left_brace ∷ inner)) next) (place (depth + 1) Other) next 1 n e
-    (λ next-is n-is. opens (ap (λ (x : List ℕ). left_brace ∷ x) (drop_one left_brace inner n n-is)) room refl next-is)
-brace_taken limit depth Other inner next n room e =
-    ok_parts (Taken limit depth Other (left_brace ∷ inner) (drop n (left_brace ∷ inner)) next) (place (depth + 1) Other) next 1 n e
-    (λ next-is n-is. opens (ap (λ (x : List ℕ). left_brace ∷ x) (drop_one left_brace inner n n-is)) room refl next-is)
+brace_taken limit depth Equals inner next n room e = grind (arith, ok_parts, drop_one)
+brace_taken limit depth Other inner next n room e = grind (arith, ok_parts, drop_one)
 
 open_taken : (limit : ℕ) (at : Place) (b : ℕ) (inner : List ℕ) (next : Place) (n : ℕ) → b == left_brace ≡ true → opened limit at inner ≡ Ok (next, n) → Taken limit at.depth at.before (b ∷ inner) (drop n (b ∷ inner)) next
 open_taken limit at b inner next n is e =

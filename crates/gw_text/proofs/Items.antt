@@ -46,11 +46,7 @@ ToEnd P = P ▹ IsSpace
 more_sound : {V : Type 0} (Form : V → List ℕ → Type 0) (others : Reader (List V)) → ((text : List ℕ) (vs : List V) (rest : List ℕ) → others text ≡ Some (vs, rest) → (rest ≡ []) × ToEnd (Spaced Form vs) text)
     → (v : V) (mid : List ℕ) (vs : List V) (rest : List ℕ) → if_more others v mid ≡ Some (vs, rest)
     → (text f between : List ℕ) → text ≡ f ++ (between ++ mid) → Form v f → IsSpace between → (rest ≡ []) × ToEnd (Spaced Form vs) text
-more_sound {V} Form others sound v [] vs rest e text f between split one space =
-    let made : List V × List ℕ = (v ∷ [], []) in
-    let same = some_is made (vs, rest) e in
-    let at-end : ToEnd (Spaced Form (v ∷ [])) text = record { front = f; back = between; split = split ∙ ap (λ (x : List ℕ). f ++ x) (append-nil between); first = one; second = space } in
-    (sym (ap (λ (p : List V × List ℕ). p.1) same), subst (λ (us : List V). ToEnd (Spaced Form us) text) (ap (λ (p : List V × List ℕ). p.0) same) at-end)
+more_sound {V} Form others sound v [] vs rest e text f between split one space = grind (arith, some_is, append-nil)
 more_sound {V} Form others sound v (b ∷ bs) vs rest e text f between split one space =
     let w = first_some v (others (b ∷ bs)) vs rest e in
     let t = sound (b ∷ bs) w.0 rest w.1 in

@@ -1,4 +1,5 @@
 -- What forms begin with, and so what may stand behind what.
+use Rattle.std.proofs.lemmas.Grind.{common_steps}
 use Rattle.std.proofs.Common.{◌≡◌, ℕ, ◌<◌, Bool, true, false, not, ◌==◌, ◌||◌, List, [], ◌∷◌, ◌++◌, length, None, refl, ap, sym, ◌∙◌, arith}
 use Rattle.std.proofs.lemmas.Bool.{eqb-true, not-true, false_from_ne_true}
 use Rattle.gw_base.specs.Bytes.{is_digit, is_letter}
@@ -113,9 +114,7 @@ begins_no_sign p b solid other text h = grind (arith, is_another, no_sign, not-t
 
 -- bytes that begin with a byte end, white space aside, what neither goes on with
 pub ahead_ends : (p : ℕ → Bool) (b : ℕ) (Q : List ℕ → Type 0) → ((c : ℕ) → is_space_start c ≡ true → p c ≡ false) → p b ≡ false → ((text : List ℕ) → Q text → begins (is_byte b) text ≡ true) → (front rest : List ℕ) → Both IsSpace Q front → NoMore p (front ++ rest)
-ahead_ends p b Q apart other first front rest h =
-    ap (begins p) (both_split IsSpace Q front rest h)
-    ∙ space_ends p apart h.front (h.back ++ rest) h.first (begins_ends (is_byte b) p (λ c e. ap p (eqb-true c b e) ∙ other) h.back rest (first h.back h.second))
+ahead_ends p b Q apart other first front rest h = grind (arith, common_steps, space_ends, begins_ends)
 
 -- ---- with other second parts
 
@@ -124,7 +123,3 @@ pub with_second : {P Q R : List ℕ → Type 0} {text : List ℕ} (b : Both P Q 
 with_second b y = record { front = b.front; back = b.back; split = b.split; first = b.first; second = y }
 
 -- ---- one byte, and white space
-
--- a solid byte does not begin white space
-pub byte_apart_space : (b : ℕ) → is_solid b ≡ true → (c : ℕ) → is_space_start c ≡ true → is_byte b c ≡ false
-byte_apart_space b solid c start = false_from_ne_true (c == b) (λ e. let same : true ≡ false = sym start ∙ ap is_space_start (eqb-true c b e) ∙ not-true (is_space_start b) solid in absurd cc)

@@ -51,9 +51,7 @@ first_some v o vs rest e = grind arith
 comma_sound : {V : Type 0} (Form : V → List ℕ → Type 0) (others : Reader (List V)) → ((text : List ℕ) (vs : List V) (rest : List ℕ) → others text ≡ Some (vs, rest) → (front : List ℕ) × (text ≡ front ++ rest) × Separated Form vs front)
     → (v : V) (mid : List ℕ) (o : Option (List ℕ)) (vs : List V) (rest : List ℕ) → sign_at comma mid ≡ o → if_comma others v mid o ≡ Some (vs, rest)
     → (text f : List ℕ) → text ≡ f ++ mid → Form v f → (front : List ℕ) × (text ≡ front ++ rest) × Separated Form vs front
-comma_sound {V} Form others sound v mid None vs rest o-is e text f split one =
-    let made : List V × List ℕ = (v ∷ [], mid) in
-    subst (λ (p : List V × List ℕ). (front : List ℕ) × (text ≡ front ++ p.1) × Separated Form p.0 front) (some_is made (vs, rest) e) (f, split, one)
+comma_sound {V} Form others sound v mid None vs rest o-is e text f split one = grind (arith, some_is)
 comma_sound {V} Form others sound v mid (Some more) vs rest o-is e text f split one =
     let w = first_some v (others more) vs rest e in
     let t = sound more w.0 rest w.1 in
@@ -163,9 +161,7 @@ up_optional {V} r Form Next Follow h l =
     (optional_to Form) (optional_of Form)
 
 empty_cases : {V : Type 0} (Form : V → List ℕ → Type 0) (vs : List V) (text front back : List ℕ) → text ≡ front ++ back → IsSign left_brace front → (Both (IsSign right_brace) (λ t. ([] ≡ vs) × (t ≡ [])) back ⊎ ClosedList Form vs back) → BracedOrEmpty Form vs text
-empty_cases {V} Form vs text front back split first (inl q) =
-    let sign : IsSign right_brace back = subst (IsSign right_brace) (sym (append-nil q.front) ∙ ap (λ (x : List ℕ). q.front ++ x) (sym q.second.1) ∙ sym q.split) q.first in
-    subst (λ (us : List V). BracedOrEmpty Form us text) q.second.0 (record { front = front; back = back; split = split; first = first; second = sign })
+empty_cases {V} Form vs text front back split first (inl q) = grind (arith, append-nil)
 empty_cases Form [] text front back split first (inr q) = absurd q.first
 empty_cases Form (v ∷ vs) text front back split first (inr q) = record { front = front; back = back; split = split; first = first; second = q }
 

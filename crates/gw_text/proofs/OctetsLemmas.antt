@@ -8,7 +8,6 @@ use Rattle.gw_text.specs.Runs.{IsRun}
 use Rattle.gw_text.specs.Octets.{is_octet, EndsIn, IsOctets}
 use Rattle.gw_text.specs.OctetsScan.{octets_from}
 use Rattle.gw_text.proofs.Signs.{some_is}
-use Rattle.gw_text.proofs.RunLemmas.{either}
 
 -- ---- octets, with a flag: whether a `\` stands in front of them
 
@@ -60,10 +59,7 @@ not_close : (e r : Bool) → e || not r ≡ true → not e && r ≡ false
 not_close e r h = grind arith
 
 pub octets_again : (escaped : Bool) (passed keep : ℕ) (body rest : List ℕ) → are_octets escaped body ≡ true → octets_from escaped passed keep (body ++ right_brace ∷ rest) ≡ Some (passed + length body, keep_end escaped passed keep body)
-octets_again escaped passed keep [] rest h =
-    let e : passed + 0 ≡ passed = omega arith in
-    let n : escaped ≡ false = not-true escaped h in
-    rw (n, e) refl
+octets_again escaped passed keep [] rest h = grind (arith, not-true)
 octets_again escaped passed keep (b ∷ bs) rest h =
     let a = and_parts (not (b == nul)) ((escaped || not (b == right_brace)) && are_octets (b == backslash) bs) h in
     let c = and_parts (escaped || not (b == right_brace)) (are_octets (b == backslash) bs) a.1 in
@@ -90,39 +86,18 @@ ends_more b front h = (b ∷ h.0, ap (λ (x : List ℕ). b ∷ x) h.1)
 
 braces_more : (escaped : Bool) (b : ℕ) (bs : List ℕ) → escaped || not (b == right_brace) ≡ true → AreOctets (b == backslash) bs
     → (before after : List ℕ) → b ∷ bs ≡ before ++ right_brace ∷ after → ((before ≡ []) × (escaped ≡ true)) ⊎ EndsIn backslash before
-braces_more escaped b bs ok h [] after e =
-    let same : b ≡ right_brace = cc in
-    either (([] ≡ []) × (escaped ≡ true) ⊎ EndsIn backslash []) escaped (not (b == right_brace)) ok
-    (λ i. inl (refl, i))
-    (λ i. let t : b == right_brace ≡ true = ap (λ (c : ℕ). c == right_brace) same in let f : b == right_brace ≡ false = not-true (b == right_brace) i in let clash : true ≡ false = sym t ∙ f in absurd cc)
-braces_more escaped b bs ok h (c ∷ cs) after e =
-    let same : b ≡ c = cc in
-    let rest : bs ≡ cs ++ right_brace ∷ after = cc in
-    inr (elim (h.braces cs after rest) [
-      | inl i ↦ ([], ap (λ (x : List ℕ). c ∷ x) i.0 ∙ ap (λ (x : ℕ). x ∷ []) (sym same ∙ eqb-true b backslash i.1))
-      | inr i ↦ ends_more c cs i
-    ])
+braces_more escaped b bs ok h [] after e = grind (arith, not-true)
+braces_more escaped b bs ok h (c ∷ cs) after e = grind (arith, eqb-true, ends_more)
 
 closed_by : (b : ℕ) (bs : List ℕ) → AreOctets (b == backslash) bs → (front : List ℕ) → b ∷ bs ≡ front ++ backslash ∷ [] → ⊥
-closed_by b bs h [] e =
-    let same : b ≡ backslash = cc in
-    let none : bs ≡ [] = cc in
-    let t : b == backslash ≡ true = ap (λ (c : ℕ). c == backslash) same in
-    let clash : true ≡ false = sym t ∙ h.open_end none in absurd cc
-closed_by b bs h (c ∷ cs) e =
-    let rest : bs ≡ cs ++ backslash ∷ [] = cc in
-    h.closed (cs, rest)
+closed_by b bs h [] e = grind arith
+closed_by b bs h (c ∷ cs) e = grind arith
 
 closed_more : (b : ℕ) (bs : List ℕ) → AreOctets (b == backslash) bs → ¬ EndsIn backslash (b ∷ bs)
 closed_more b bs h x = closed_by b bs h x.0 x.1
 
 are_sound : (escaped : Bool) (body : List ℕ) → are_octets escaped body ≡ true → AreOctets escaped body
-are_sound escaped [] h = record {
-  octets = refl;
-  braces = λ before after e. absurd (nil_not_cons before right_brace after e);
-  open_end = λ _. not-true escaped h;
-  closed = λ x. nil_not_cons x.0 backslash [] x.1;
-}
+are_sound escaped [] h = grind (arith, nil_not_cons, not-true)
 are_sound escaped (b ∷ bs) h =
     let a = and_parts (not (b == nul)) ((escaped || not (b == right_brace)) && are_octets (b == backslash) bs) h in
     let c = and_parts (escaped || not (b == right_brace)) (are_octets (b == backslash) bs) a.1 in
@@ -142,9 +117,7 @@ brace_ok escaped b bs h true is =
     elim (h.braces [] bs first) [ inl i ↦ ap (λ (e : Bool). e || false) i.1 | inr i ↦ absurd (nil_not_cons i.0 backslash [] i.1) ]
 
 last_of : (b : ℕ) (before front : List ℕ) → b ∷ before ≡ front ++ backslash ∷ [] → ((before ≡ []) × (b == backslash ≡ true)) ⊎ EndsIn backslash before
-last_of b before [] e =
-    let same : b ≡ backslash = cc in
-    inl (cc, ap (λ (c : ℕ). c == backslash) same)
+last_of b before [] e = grind arith
 last_of b before (c ∷ cs) e = inr (cs, cc)
 
 after_byte : (escaped : Bool) (b : ℕ) (bs : List ℕ) → AreOctets escaped (b ∷ bs) → (before after : List ℕ) → bs ≡ before ++ right_brace ∷ after → ((before ≡ []) × (b == backslash ≡ true)) ⊎ EndsIn backslash before

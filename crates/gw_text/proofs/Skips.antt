@@ -13,9 +13,7 @@ use Rattle.gw_text.proofs.SpaceParts.{further}
 
 over_from : (inside : Bool) (passed best : ℕ) (front rest : List ℕ) → is_space inside front ≡ true → (inside ≡ false → best ≡ passed) → space_len_from inside passed best (front ++ rest) ≡ space_len_from false (passed + length front) (passed + length front) rest
 over_from true passed best [] rest scanned so_far = absurd cc
-over_from false passed best [] rest scanned so_far =
-    let e : passed + 0 ≡ passed = omega arith in
-    rw (e, so_far refl) refl
+over_from false passed best [] rest scanned so_far = grind arith
 over_from false passed best (b ∷ bs) rest scanned so_far =
     let e : passed + suc (length bs) ≡ passed + 1 + length bs = omega arith in
     rw e (out_step (is_blank b) (b == semicolon) (is_space false bs) (is_space true bs) _ _ best _ scanned

@@ -24,9 +24,7 @@ in_step e z rb rc lb lc best total h f g = grind arith
 again_from : (inside : Bool) (passed best : ℕ) (front rest : List ℕ) → is_space inside front ≡ true → (inside ≡ false → best ≡ passed) → begins is_space_start rest ≡ false → space_len_from inside passed best (front ++ rest) ≡ passed + length front
 again_from true passed best [] rest space so_far ends = absurd cc
 again_from false passed best [] [] space so_far ends = so_far refl ∙ omega arith
-again_from false passed best [] (b ∷ bs) space so_far ends =
-    let h = or_parts (is_blank b) (b == semicolon) ends in
-    rw (h.0, h.1) (so_far refl ∙ omega arith)
+again_from false passed best [] (b ∷ bs) space so_far ends = grind (arith, or_parts)
 again_from false passed best (b ∷ bs) rest space so_far ends =
     out_step (is_blank b) (b == semicolon) (is_space false bs) (is_space true bs) _ _ best _ space
     (λ h. again_from false (passed + 1) (passed + 1) bs rest h (λ _. refl) ends ∙ omega arith)
@@ -91,14 +89,8 @@ space_is text = sound_from false [] text 0 0 refl (λ more. refl) refl
 
 no_less : (inside : Bool) (passed best : ℕ) (bs : List ℕ) → best ≤ passed → best ≤ space_len_from inside passed best bs
 no_less inside passed best [] le = omega arith
-no_less false passed best (b ∷ bs) le =
-    let blank = no_less false (passed + 1) (passed + 1) bs (omega arith) in
-    let comment = no_less true (passed + 1) best bs (omega arith) in
-    choose (λ n. best ≤ n) (is_blank b) (b == semicolon) _ _ best (λ w. omega (arith, blank)) (λ w c. comment) (λ w c. omega arith)
-no_less true passed best (b ∷ bs) le =
-    let blank = no_less false (passed + 1) (passed + 1) bs (omega arith) in
-    let comment = no_less true (passed + 1) best bs (omega arith) in
-    choose_in (λ n. best ≤ n) (is_eol b) (b == nul) _ _ best (λ w. omega (arith, blank)) (λ w c. omega arith) (λ w c. comment)
+no_less false passed best (b ∷ bs) le = grind (arith, no_less false (passed + 1) (passed + 1) bs (omega arith), no_less true (passed + 1) best bs (omega arith), choose)
+no_less true passed best (b ∷ bs) le = grind (arith, no_less false (passed + 1) (passed + 1) bs (omega arith), no_less true (passed + 1) best bs (omega arith), choose_in)
 
 longest_from : (inside : Bool) (passed best : ℕ) (other left : List ℕ) → is_space inside other ≡ true → best ≤ passed → (inside ≡ false → best ≡ passed) → passed + length other ≤ space_len_from inside passed best (other ++ left)
 longest_from true passed best [] left space le so_far = absurd cc
@@ -120,14 +112,8 @@ space_longest other left space = omega (arith, longest_from false 0 0 other left
 
 within_from : (inside : Bool) (passed best : ℕ) (bs : List ℕ) → best ≤ passed → space_len_from inside passed best bs ≤ passed + length bs
 within_from inside passed best [] le = omega arith
-within_from false passed best (b ∷ bs) le =
-    let blank = within_from false (passed + 1) (passed + 1) bs (omega arith) in
-    let comment = within_from true (passed + 1) best bs (omega arith) in
-    choose (λ n. n ≤ passed + length (b ∷ bs)) (is_blank b) (b == semicolon) _ _ best (λ w. omega (arith, blank)) (λ w c. omega (arith, comment)) (λ w c. omega arith)
-within_from true passed best (b ∷ bs) le =
-    let blank = within_from false (passed + 1) (passed + 1) bs (omega arith) in
-    let comment = within_from true (passed + 1) best bs (omega arith) in
-    choose_in (λ n. n ≤ passed + length (b ∷ bs)) (is_eol b) (b == nul) _ _ best (λ w. omega (arith, blank)) (λ w c. omega arith) (λ w c. omega (arith, comment))
+within_from false passed best (b ∷ bs) le = grind (arith, within_from false (passed + 1) (passed + 1) bs (omega arith), within_from true (passed + 1) best bs (omega arith), choose)
+within_from true passed best (b ∷ bs) le = grind (arith, within_from false (passed + 1) (passed + 1) bs (omega arith), within_from true (passed + 1) best bs (omega arith), choose_in)
 
 pub space_len-le : (text : List ℕ) → space_len text ≤ length text
 unfolding space_len

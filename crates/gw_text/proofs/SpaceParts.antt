@@ -1,7 +1,7 @@
 -- White space is blanks, then a comment and blanks, as often as one comes.
 use Rattle.std.proofs.Common.{◌≡◌, ℕ, zero, suc, ◌+◌, Bool, true, false, cond, ◌==◌, List, [], ◌∷◌, Option, Some, None, drop, refl, ap, sym, ◌∙◌, arith, drop-drop}
 use Rattle.std.proofs.lemmas.Bool.{eqb-true}
-use Rattle.gw_text.specs.Lexical.{nul, semicolon, is_blank, is_eol, is_comment_byte}
+use Rattle.gw_text.specs.Lexical.{semicolon, is_blank, is_eol, is_comment_byte}
 use Rattle.gw_text.specs.Runs.{run_len, begins}
 use Rattle.gw_text.specs.SpaceScan.{space_len_from, space_len, ended_len, comment_len}
 
@@ -18,16 +18,8 @@ added k w c a b d a' b' d' f g h = grind arith
 
 pub further : (k : ℕ) (inside : Bool) (passed best passed' best' : ℕ) (bs : List ℕ) → passed' ≡ k + passed → best' ≡ k + best → space_len_from inside passed' best' bs ≡ k + space_len_from inside passed best bs
 further k inside passed best passed' best' [] p b = b
-further k false passed best passed' best' (x ∷ xs) p b =
-    added k (is_blank x) (x == semicolon) _ _ best _ _ best'
-    (further k false (passed + 1) (passed + 1) (passed' + 1) (passed' + 1) xs (omega (arith, p)) (omega (arith, p)))
-    (further k true (passed + 1) best (passed' + 1) best' xs (omega (arith, p)) b)
-    b
-further k true passed best passed' best' (x ∷ xs) p b =
-    added k (is_eol x) (x == nul) _ best _ _ best' _
-    (further k false (passed + 1) (passed + 1) (passed' + 1) (passed' + 1) xs (omega (arith, p)) (omega (arith, p)))
-    b
-    (further k true (passed + 1) best (passed' + 1) best' xs (omega (arith, p)) b)
+further k false passed best passed' best' (x ∷ xs) p b = grind (arith, further k false (passed + 1) (passed + 1) (passed' + 1) (passed' + 1) xs (omega (arith, p)) (omega (arith, p)), further k true (passed + 1) best (passed' + 1) best' xs (omega (arith, p)) b, added)
+further k true passed best passed' best' (x ∷ xs) p b = grind (arith, further k false (passed + 1) (passed + 1) (passed' + 1) (passed' + 1) xs (omega (arith, p)) (omega (arith, p)), further k true (passed + 1) best (passed' + 1) best' xs (omega (arith, p)) b, added)
 
 -- ---- blanks
 

@@ -1,5 +1,6 @@
 -- From one entry of the table of tokens to the next, and the word that comes next.
-use Rattle.std.proofs.Common.{◌≡◌, ℕ, ◌+◌, ◌-◌, ◌<◌, ◌≤◌, Bool, true, false, not, List, [], ◌∷◌, ◌++◌, length, get_or, take, drop, Option, Some, refl, ap, sym, ◌∙◌, arith, add-one, drop-cons}
+use Rattle.std.proofs.lemmas.Grind.{common_steps}
+use Rattle.std.proofs.Common.{◌≡◌, ℕ, ◌+◌, ◌-◌, ◌<◌, ◌≤◌, Bool, true, false, not, List, [], ◌∷◌, ◌++◌, length, get_or, take, drop, Option, Some, refl, ap, sym, ◌∙◌, arith, drop-cons}
 use Rattle.std.specs.Bool.{OnTrue}
 use Rattle.std.specs.List.{list_all}
 use Rattle.std.proofs.lemmas.List.{take_at, take_all, take-append-drop, length-drop}
@@ -18,9 +19,7 @@ found_here table i s word total h is so_far = sym so_far ∙ rw (drop-cons table
 
 pub not_here : (table : List code.Spelling) (i : ℕ) (s : code.Spelling) (word : List ℕ) (total : Option Token) → i < length table → is_spelling (get_or table i s).0.now (get_or table i s).1.now word ≡ false
     → find_token word (entries (drop i table)) ≡ total → find_token word (entries (drop (i + 1) table)) ≡ total
-not_here table i s word total h is so_far =
-    let one : find_token word (entries (drop i table)) ≡ find_token word (entries (drop (i + 1) table)) = rw (add-one, drop-cons table i s, is) refl in
-    sym one ∙ so_far
+not_here table i s word total h is so_far = grind (arith, common_steps)
 
 -- a word of these bytes is the token that they are
 pub sent_as : (word text : List ℕ) (token : Option Token) → length word ≡ length text → HasBytesAt word 0 text → token_of text ≡ token → token_of word ≡ token

@@ -1,9 +1,9 @@
 -- What is kept of octets is one text alone, and it is what the scan keeps.
-use Rattle.std.proofs.Common.{◌≡◌, ◌⊎◌, inl, inr, ℕ, suc, ◌+◌, Bool, true, false, cond, not, ◌==◌, ◌||◌, List, [], ◌∷◌, ◌++◌, length, take, drop, refl, ap, sym, subst, ◌∙◌, append_assoc, length-append, arith}
+use Rattle.std.proofs.lemmas.Grind.{common_steps}
+use Rattle.std.proofs.Common.{◌≡◌, ◌⊎◌, inl, inr, ℕ, ◌+◌, Bool, true, false, cond, not, ◌==◌, ◌||◌, List, [], ◌∷◌, ◌++◌, length, take, drop, refl, ap, sym, subst, ◌∙◌, append_assoc, arith}
 use Rattle.std.specs.List.{list_all}
-use Rattle.std.proofs.lemmas.List.{append-nil, take-append-drop, take_at, drop_at}
+use Rattle.std.proofs.lemmas.List.{take-append-drop, drop_at}
 use Rattle.std.proofs.lemmas.Bool.{eqb-true, and_parts}
-use Rattle.std.proofs.Math.Bool.{or-true}
 use Rattle.gw_text.specs.Lexical.{backslash, is_blank}
 use Rattle.gw_text.specs.Runs.{IsRun, begins, run_len}
 use Rattle.gw_text.specs.Octets.{EndsKept, IsTrimmed}
@@ -20,12 +20,8 @@ escaped_by escaped [] = escaped
 escaped_by escaped (b ∷ bs) = escaped_by (b == backslash) bs
 
 keep_append : (escaped : Bool) (passed keep : ℕ) (xs ys : List ℕ) → keep_end escaped passed keep (xs ++ ys) ≡ keep_end (escaped_by escaped xs) (passed + length xs) (keep_end escaped passed keep xs) ys
-keep_append escaped passed keep [] ys =
-    let e : passed + 0 ≡ passed = omega arith in
-    rw e refl
-keep_append escaped passed keep (b ∷ bs) ys =
-    let e : passed + suc (length bs) ≡ passed + 1 + length bs = omega arith in
-    rw e (keep_append (b == backslash) (passed + 1) (cond (escaped || not (is_blank b)) (passed + 1) keep) bs ys)
+keep_append escaped passed keep [] ys = grind arith
+keep_append escaped passed keep (b ∷ bs) ys = grind (arith, keep_append (b == backslash) (passed + 1) (cond (escaped || not (is_blank b)) (passed + 1) keep) bs ys)
 
 blank_no_slash : (b : ℕ) → is_blank b ≡ true → (t : Bool) → b == backslash ≡ t → t ≡ false
 blank_no_slash b h t is = grind arith
@@ -39,49 +35,11 @@ keep_blank passed keep (b ∷ bs) h =
     let n : b == backslash ≡ false = blank_no_slash b blank (b == backslash) refl in
     rw (n, blank) (keep_blank (passed + 1) keep bs a.1)
 
-blank_escapes : (xs : List ℕ) → IsRun is_blank xs → escaped_by false xs ≡ false
-blank_escapes [] h = refl
-blank_escapes (b ∷ bs) h =
-    let a = and_parts (is_blank b) (list_all is_blank bs) h in
-    let n : b == backslash ≡ false = blank_no_slash b a.0 (b == backslash) refl in
-    rw n (blank_escapes bs a.1)
-
-escaped_last : (escaped : Bool) (front : List ℕ) (b : ℕ) → escaped_by escaped (front ++ b ∷ []) ≡ (b == backslash)
-escaped_last escaped [] b = refl
-escaped_last escaped (c ∷ cs) b = escaped_last (c == backslash) cs b
-
 -- ---- what is kept is what is to be kept
-
--- behind a byte that is no white space, nothing more is kept, but for what is behind a `\`
-span_clean : (passed : ℕ) (front : List ℕ) (last : ℕ) (trail : List ℕ) → is_blank last ≡ false → (last ≡ backslash → trail ≡ []) → IsRun is_blank trail → (t : Bool) → last == backslash ≡ t
-    → keep_end false passed 0 ((front ++ last ∷ []) ++ trail) ≡ passed + length (front ++ last ∷ [])
-span_clean passed front last trail solid alone blank t is = grind (arith, keep_append, keep_blank, escaped_last, append-nil, eqb-true, length-append, or-true)
-
-span_kept : (passed : ℕ) (front : List ℕ) (kept : ℕ) (trail : List ℕ) → is_blank kept ≡ true → IsRun is_blank trail → keep_end false passed 0 ((front ++ backslash ∷ (kept ∷ [])) ++ trail) ≡ passed + length (front ++ backslash ∷ (kept ∷ []))
-span_kept passed front kept trail white blank = grind (arith, keep_append, blank_no_slash, keep_blank, escaped_last, append_assoc, length-append)
-
-keep_cases : (P : Type 0) (span trail : List ℕ) → EndsKept span trail
-    → ((front : List ℕ) (last : ℕ) → span ≡ front ++ last ∷ [] → is_blank last ≡ false → (last ≡ backslash → trail ≡ []) → P)
-    → ((front : List ℕ) (kept : ℕ) → span ≡ front ++ backslash ∷ (kept ∷ []) → is_blank kept ≡ true → P) → (span ≡ [] → P) → P
-keep_cases P span trail h f g k = grind arith
 
 -- the scan keeps the lead and the span, or nothing
 keep_span : (lead span trail : List ℕ) → IsRun is_blank lead → IsRun is_blank trail → EndsKept span trail → (take (keep_end false 0 0 (lead ++ (span ++ trail))) (lead ++ (span ++ trail)) ≡ lead ++ span) ⊎ ((span ≡ []) × (keep_end false 0 0 (lead ++ (span ++ trail)) ≡ 0))
-keep_span lead span trail white blank ends =
-    let n : ℕ = 0 + length lead in
-    let start : keep_end false 0 0 (lead ++ (span ++ trail)) ≡ keep_end false n 0 (span ++ trail) =
-    keep_append false 0 0 lead (span ++ trail)
-    ∙ ap (λ (e : Bool). keep_end e n (keep_end false 0 0 lead) (span ++ trail)) (blank_escapes lead white)
-    ∙ ap (λ (k : ℕ). keep_end false n k (span ++ trail)) (keep_blank 0 0 lead white) in
-    let whole : lead ++ (span ++ trail) ≡ (lead ++ span) ++ trail = sym (append_assoc lead span trail) in
-    let taken : (keep : ℕ) → keep_end false n 0 (span ++ trail) ≡ keep → keep ≡ n + length span → take (keep_end false 0 0 (lead ++ (span ++ trail))) (lead ++ (span ++ trail)) ≡ lead ++ span =
-    λ keep e len. ap (λ (k : ℕ). take k (lead ++ (span ++ trail))) (start ∙ e) ∙ ap (take keep) whole ∙ take_at (lead ++ span) trail keep (omega (arith, len, length-append lead span)) in
-    keep_cases ((take (keep_end false 0 0 (lead ++ (span ++ trail))) (lead ++ (span ++ trail)) ≡ lead ++ span) ⊎ ((span ≡ []) × (keep_end false 0 0 (lead ++ (span ++ trail)) ≡ 0))) span trail ends
-    (λ front last is solid alone. inl (taken (keep_end false n 0 (span ++ trail)) refl
-    (ap (λ (x : List ℕ). keep_end false n 0 (x ++ trail)) is ∙ span_clean n front last trail solid alone blank (last == backslash) refl ∙ ap (λ (x : List ℕ). n + length x) (sym is))))
-    (λ front kept is w. inl (taken (keep_end false n 0 (span ++ trail)) refl
-    (ap (λ (x : List ℕ). keep_end false n 0 (x ++ trail)) is ∙ span_kept n front kept trail w blank ∙ ap (λ (x : List ℕ). n + length x) (sym is))))
-    (λ none. inr (none, start ∙ ap (λ (x : List ℕ). keep_end false n 0 (x ++ trail)) none ∙ keep_blank n 0 trail blank))
+keep_span lead span trail white blank ends = grind (arith, common_steps, keep_append, keep_blank)
 
 trimmed_is : (lead span : List ℕ) → IsRun is_blank lead → begins is_blank span ≡ false → trimmed (lead ++ span) ≡ span
 trimmed_is lead span white solid = ap (λ (n : ℕ). drop n (lead ++ span)) (run_again is_blank lead span white solid) ∙ drop_at lead span (length lead) refl
@@ -125,26 +83,11 @@ core_none : (core : List ℕ) → begins is_blank core ≡ false → (trail : Li
 core_none core solid trail split blank = grind arith
 
 begins_front : (p : ℕ → Bool) (before : List ℕ) (last : ℕ) (more : List ℕ) → begins p ((before ++ last ∷ []) ++ more) ≡ begins p (before ++ last ∷ [])
-begins_front p [] last more = refl
-begins_front p (c ∷ cs) last more = refl
+begins_front p before last more = grind (arith, common_steps)
 
 core_some : (core : List ℕ) → begins is_blank core ≡ false → (before : List ℕ) (last : ℕ) (trail : List ℕ) → core ≡ (before ++ last ∷ []) ++ trail → is_blank last ≡ false → IsRun is_blank trail → (t : Bool) → last == backslash ≡ t → IsCore core
-core_some core solid before last trail split end blank false is = record {
-  span = before ++ last ∷ [];
-  trail = trail;
-  split = split;
-  blank = blank;
-  solid = sym (begins_front is_blank before last trail) ∙ ap (begins is_blank) (sym split) ∙ solid;
-  ends = inl (before, last, refl, end, λ same. let clash : true ≡ false = sym (ap (λ (c : ℕ). c == backslash) same) ∙ is in absurd cc);
-}
-core_some core solid before last [] split end blank true is = record {
-  span = before ++ last ∷ [];
-  trail = [];
-  split = split;
-  blank = refl;
-  solid = sym (begins_front is_blank before last []) ∙ ap (begins is_blank) (sym split) ∙ solid;
-  ends = inl (before, last, refl, end, λ same. refl);
-}
+core_some core solid before last trail split end blank false is = grind (arith, begins_front)
+core_some core solid before last [] split end blank true is = grind (arith, begins_front)
 core_some core solid before last (w ∷ ws) split end blank true is =
     let a = and_parts (is_blank w) (list_all is_blank ws) blank in
     let slash : last ≡ backslash = eqb-true last backslash is in

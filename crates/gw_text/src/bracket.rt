@@ -10,16 +10,10 @@ use crate::class::is_safe;
 use crate::octets::quoted_len;
 use crate::space::space_len;
 
-fn is_run_mark(b: u8) -> bool
-    ensures { result ≡ is_run_mark b }
-{
-    b"[]:<>#".contains(&b)
-}
-
 fn is_run_byte(b: u8) -> bool
     ensures { result ≡ is_run_byte b }
 {
-    is_safe(b) || is_run_mark(b)
+    is_safe(b) || b"[]:<>#".contains(&b)
 }
 
 /// The length of the run at the front.

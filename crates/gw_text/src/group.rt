@@ -38,18 +38,12 @@ impl Place {
     }
 }
 
-fn is_octets_word(word: &[u8]) -> bool
-    ensures { result ≡ is_octets_word word.now }
-{
-    matches!(token_of(word), Some(Token::Local | Token::Remote))
-}
-
 fn after_word(before: Before, word: &[u8]) -> Before
     ensures { result ≡ after_word before word.now }
 {
     match before {
         Before::Equals => Before::Other,
-        _ if is_octets_word(word) => Before::OctetsWord,
+        _ if matches!(token_of(word), Some(Token::Local | Token::Remote)) => Before::OctetsWord,
         _ => Before::Other,
     }
 }

@@ -1,4 +1,4 @@
-use Rattle.std.proofs.Common.{◌≡◌, ◌+◌, Some, None, drop, ◌∙◌, ap, sym, arith, rules}
+use Rattle.std.proofs.Common.{◌≡◌, ◌+◌, Some, drop, ◌∙◌, ap, sym, arith, rules}
 use Rattle.std.proofs.lemmas.List.{take_rest}
 use Rattle.gw_text.specs.Lexical.{is_blank}
 use Rattle.gw_text.specs.Runs.{run_len}
@@ -22,9 +22,4 @@ loop-comment-preserved c =
     record { value = passed.0; solid = passed.1; within = search rules }
 
 pub returns-clause-value : goal.returns-clause-value
-returns-clause-value c =
-    let text = c.args.text.now in
-    let len = c.loop-comment.len in
-    let is : comment_len (drop len text) ≡ None = ap comment_len (sym (take_rest text len)) ∙ sym c.in_default.ensures.value in
-    let none = none_left (drop len text) c.loop-comment.invariant.solid is in
-    omega (arith, none, c.loop-comment.invariant.value)
+returns-clause-value c = grind (arith, take_rest, none_left)

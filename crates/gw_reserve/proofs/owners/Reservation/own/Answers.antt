@@ -1,7 +1,5 @@
 use Rattle.gw_base.specs.Choose.{is_choose}
-use Rattle.gw_base.specs.declared.ids.CtxNum.{CtxNum}
 use Rattle.gw_msg.specs.declared.message.Action.{Action}
-use Rattle.gw_msg.specs.declared.message.Command.{Command}
 use Rattle.gw_table.specs.Stored.{maps_of}
 use Rattle.gw_reserve.specs.Owned.{is_adding}
 use Rattle.gw_reserve.specs.Owners.{all_commands}
@@ -11,9 +9,6 @@ use Rattle.gw_reserve.specs.ReservationView.{value_of}
 use Rattle.gw_reserve.proofs.Owning.{if_both, own_paired, own_contexts, own_slots, own_cursors}
 use Rattle.std.proofs.lemmas.Result.{IfOk-weaker}
 use Rattle.gw_reserve.proofs.owners.Reservation.own.Goals as goal
-
-pub invariant_of-self : goal.invariant_of-self
-invariant_of-self c = record { numbers = c.own_all.ensures.number_search; slots = c.own_all.ensures.slot_search }
 
 pub returns-clause-entry_for_action : goal.returns-clause-entry_for_action
 returns-clause-entry_for_action c =
