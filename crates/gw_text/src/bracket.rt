@@ -3,7 +3,7 @@
 ghost use Rattle.std.specs.Prelude.{◌≡◌, ◌≤◌, true, false, length, drop, IfSome, MatchOption};
 ghost use Rattle.gw_text.specs.Lexical.{right_bracket};
 ghost use Rattle.gw_text.specs.Runs.{begins, is_byte, run_len};
-ghost use Rattle.gw_text.specs.Bracket.{is_run_mark, is_run_byte, is_bracket_byte};
+ghost use Rattle.gw_text.specs.Bracket.{is_run_byte, is_bracket_byte};
 ghost use Rattle.gw_text.specs.BracketScan.{piece_len, bracket_rest, bracket_at, IsLeft, IsSpanLen};
 
 use crate::class::is_safe;

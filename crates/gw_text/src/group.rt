@@ -2,7 +2,7 @@
 
 ghost use Rattle.std.specs.Prelude.{◌≡◌, ◌≤◌, ◌+◌, ◌<◌, ◌^◌, length, IfOk};
 ghost use Rattle.gw_text.specs.SpaceScan.{space_len};
-ghost use Rattle.gw_text.specs.Group.{after_word, after_mark, is_octets_word};
+ghost use Rattle.gw_text.specs.Group.{after_word, after_mark};
 ghost use Rattle.gw_text.specs.GroupScan.{opened, after_sign, spaced, step_at, group_rest, balanced_at, place, IsRest, IsLen};
 ghost use Rattle.gw_text.specs.declared.group.Before.TheVariants as before;
 
