@@ -1,4 +1,5 @@
 -- Keys that are listed otherwise meet the same.
+use Rattle.std.proofs.lemmas.Grind.{common_steps}
 use Rattle.std.proofs.Common.{◌≡◌, ℕ, zero, suc, ◌<◌, Bool, true, false, List, [], ◌∷◌, map, length, take, Option, None, Some, refl, sym, ap, ◌∙◌, arith}
 use Rattle.std.specs.Prelude.{◌||◌, slice_get}
 use Rattle.gw_base.specs.declared.key.Key.{Key}
@@ -12,10 +13,7 @@ use Rattle.gw_board.specs.Met.{IsFirst}
 use Rattle.gw_board.proofs.Outs.{SameKeys, apart_left, apart_right}
 
 both_false : (p q : Bool) → (p ≡ false → q ≡ false) → (q ≡ false → p ≡ false) → p ≡ q
-both_false true true f g = refl
-both_false true false f g = g refl
-both_false false true f g = sym (f refl)
-both_false false false f g = refl
+both_false p q f g = grind arith
 
 pub meets_alike : (a b x y : List Key) → SameKeys a x → SameKeys b y → meets a b ≡ meets x y
 meets_alike a b x y f g = both_false (meets a b) (meets x y)
@@ -55,11 +53,7 @@ take-map f [] (suc i) = refl
 take-map f (x ∷ xs) (suc i) = ap (λ l. f x ∷ l) (take-map f xs i)
 
 take-take : {X : Type 0} (xs : List X) (i j : ℕ) → j < i → take j (take i xs) ≡ take j xs
-take-take xs zero j l = absurd (omega arith)
-take-take [] (suc i) zero l = refl
-take-take [] (suc i) (suc j) l = refl
-take-take (x ∷ xs) (suc i) zero l = refl
-take-take (x ∷ xs) (suc i) (suc j) l = ap (λ k. x ∷ k) (take-take xs i j (omega arith))
+take-take xs i j l = grind (arith, common_steps)
 
 pub get-take : {X : Type 0} (xs : List X) (i j : ℕ) → j < i → slice_get (take i xs) j ≡ slice_get xs j
 get-take xs zero j l = absurd (omega arith)
@@ -68,10 +62,7 @@ get-take (x ∷ xs) (suc i) zero l = refl
 get-take (x ∷ xs) (suc i) (suc j) l = get-take xs i j (omega arith)
 
 pub below-take : {X : Type 0} (xs : List X) (i j : ℕ) → j < length (take i xs) → j < i
-below-take xs zero j l = absurd (omega arith)
-below-take [] (suc i) j l = absurd (omega arith)
-below-take (x ∷ xs) (suc i) zero l = omega arith
-below-take (x ∷ xs) (suc i) (suc j) l = let h : j < i = below-take xs i j (omega arith) in omega (arith, h)
+below-take xs i j l = grind (arith, common_steps)
 
 module _ (b : Seen) (i : ℕ) (a : BurstRequest) (keys : List Key) (pends : slice_get b.places i ≡ Some (pending a)) (same : SameKeys keys (keys_of a b.maps)) where
   pub none_met : meets_any keys b.maps (take i b.places) ≡ false → MayOpen (core_of b) i a keys

@@ -1,5 +1,6 @@
 -- Places as they are kept.
-use Rattle.std.proofs.Common.{◌≡◌, ℕ, zero, suc, ◌<◌, ◌≤◌, Bool, true, false, cond, not, List, [], ◌∷◌, ◌++◌, map, length, Some, refl, sym, ap, ◌∙◌, arith, slice_index_or}
+use Rattle.std.proofs.lemmas.Grind.{common_steps}
+use Rattle.std.proofs.Common.{◌≡◌, ℕ, zero, suc, ◌<◌, ◌≤◌, Bool, true, false, cond, List, [], ◌∷◌, ◌++◌, map, length, Some, refl, sym, ap, arith, slice_index_or}
 use Rattle.std.specs.Prelude.{slice_get, slice_set}
 use Rattle.gw_board.specs.Texts.{Text}
 use Rattle.gw_board.specs.Boards.{requested_in, is_closed, is_pending_at, unclosed}
@@ -18,9 +19,7 @@ seat_inside (s ∷ ss) (suc i) p e = let h : i < length ss = seat_inside ss i p 
 pub staged : (board_entries : List BoardEntry) (i : ℕ) (old : BoardEntry) (new : Stage) (p : Place) → i < length board_entries → old ≡ slice_index_or board_entries i old → slice_get (map place_of board_entries) i ≡ Some p
     → map place_of (slice_set board_entries i (record { task = old.task; stage = new })) ≡ slice_set (map place_of board_entries) i (record { requested = p.requested; standing = standing_of new })
 staged [] i old new p l f e = absurd (omega arith)
-staged (s ∷ ss) zero old new p l f e =
-    let same : place_of s ≡ p = cc in
-    ap (λ (a : BurstRequest). record { requested = a; standing = standing_of new } ∷ map place_of ss) (ap (λ (x : BoardEntry). x.task) f ∙ ap (λ (x : Place). x.requested) same)
+staged (s ∷ ss) zero old new p l f e = grind arith
 staged (s ∷ ss) (suc i) old new p l f e = ap (λ (l : List Place). place_of s ∷ l) (staged ss i old new p (omega arith) f e)
 
 -- the requests stay
@@ -46,12 +45,10 @@ unclosed-pending [] = refl
 unclosed-pending (a ∷ more) = let h : unclosed (map pending more) ≡ length more = unclosed-pending more in omega (arith, h)
 
 pub length-places : (board_entries : List BoardEntry) → length (map place_of board_entries) ≡ length board_entries
-length-places [] = refl
-length-places (s ∷ ss) = let h : length (map place_of ss) ≡ length ss = length-places ss in omega (arith, h)
+length-places board_entries = grind (arith, common_steps)
 
 pub length-pending : (requested : List BurstRequest) → length (map pending requested) ≡ length requested
-length-pending [] = refl
-length-pending (a ∷ more) = let h : length (map pending more) ≡ length more = length-pending more in omega (arith, h)
+length-pending requested = grind (arith, common_steps)
 
 module _ (a b : ℕ) where
   both_open : (x y : Bool) → x ≡ false → y ≡ false → a ≡ b → cond x a (suc a) ≡ cond y b (suc b)
@@ -74,16 +71,12 @@ module _ (a b : ℕ) where
 
 pub unclosed-stays : (places : List Place) (i : ℕ) (p new : Place) → slice_get places i ≡ Some p → is_closed p.standing ≡ false → is_closed new.standing ≡ false → unclosed (slice_set places i new) ≡ unclosed places
 unclosed-stays [] i p new e f g = absurd cc
-unclosed-stays (q ∷ qs) zero p new e f g =
-    let same : q ≡ p = cc in
-    both_open (unclosed qs) (unclosed qs) (is_closed new.standing) (is_closed q.standing) g (ap (λ (x : Place). is_closed x.standing) same ∙ f) refl
+unclosed-stays (q ∷ qs) zero p new e f g = grind arith
 unclosed-stays (q ∷ qs) (suc i) p new e f g = either_way (unclosed (slice_set qs i new)) (unclosed qs) (is_closed q.standing) (unclosed-stays qs i p new e f g)
 
 pub unclosed-less : (places : List Place) (i : ℕ) (p new : Place) → slice_get places i ≡ Some p → is_closed p.standing ≡ false → is_closed new.standing ≡ true → suc (unclosed (slice_set places i new)) ≡ unclosed places
 unclosed-less [] i p new e f g = absurd cc
-unclosed-less (q ∷ qs) zero p new e f g =
-    let same : q ≡ p = cc in
-    one_less (unclosed qs) (unclosed qs) (is_closed new.standing) (is_closed q.standing) g (ap (λ (x : Place). is_closed x.standing) same ∙ f) refl
+unclosed-less (q ∷ qs) zero p new e f g = grind arith
 unclosed-less (q ∷ qs) (suc i) p new e f g = one_less_later (unclosed (slice_set qs i new)) (unclosed qs) (is_closed q.standing) (unclosed-less qs i p new e f g)
 
 -- ---- where all are closed
@@ -93,12 +86,10 @@ abbrev pub told_as : List Text → List BoardEntry → List Standing
 told_as replies board_entries = map Closed replies ++ map (λ p. p.standing) (map place_of board_entries)
 
 pub told_all : (replies : List Text) → told_as replies [] ≡ map Closed replies
-told_all [] = refl
-told_all (r ∷ rs) = ap (λ (l : List Standing). Closed r ∷ l) (told_all rs)
+told_all replies = grind (arith, common_steps)
 
 pub nil_of : {X : Type 0} (xs : List X) → length xs ≡ 0 → xs ≡ []
-nil_of [] e = refl
-nil_of (x ∷ xs) e = absurd (omega arith)
+nil_of xs e = grind (arith, common_steps)
 
 -- ---- places that are pending again, from the first on
 
@@ -128,5 +119,4 @@ place_there (p ∷ ps) zero h = (p, refl)
 place_there (p ∷ ps) (suc n) h = place_there ps n (omega arith)
 
 pub length-requested : (places : List Place) → length (requested_in places) ≡ length places
-length-requested [] = refl
-length-requested (p ∷ ps) = let h : length (requested_in ps) ≡ length ps = length-requested ps in omega (arith, h)
+length-requested places = grind (arith, common_steps)

@@ -1,6 +1,7 @@
 -- All that is open is closed by lawful events, whatever the choice.
+use Rattle.std.proofs.lemmas.Grind.{common_steps}
 use Rattle.std.proofs.Common.{◌≡◌, ℕ, ◌+◌, Bool, true, false, List, [], ◌∷◌, ◌++◌, length, Option, None, Some, refl, sym, ap, subst, ◌∙◌, arith, append-nil}
-use Rattle.std.specs.Prelude.{◌||◌, slice_get, slice_set}
+use Rattle.std.specs.Prelude.{slice_get, slice_set}
 use Rattle.std.specs.List.{list_any, range_with_len}
 use Rattle.std.proofs.lemmas.List.{length-append}
 use Rattle.gw_board.specs.declared.profile.Profile.{Profile}
@@ -16,12 +17,7 @@ abbrev IsShut : List Place → Type 0
 IsShut places = list_any (λ p. is_open p.standing) places ≡ false
 
 shut_more : (front : List Place) (p : Place) → IsShut front → is_open p.standing ≡ false → IsShut (front ++ p ∷ [])
-shut_more [] p h e = ap (λ b. b || false) e
-shut_more (q ∷ qs) p h e = by (is_open q.standing) h (λ g. shut_more qs p g e)
-  where
-    by : (b : Bool) → (b || list_any (λ p. is_open p.standing) qs) ≡ false → (IsShut qs → IsShut (qs ++ p ∷ [])) → (b || list_any (λ p. is_open p.standing) (qs ++ p ∷ [])) ≡ false
-    by true i f = absurd cc
-    by false i f = f i
+shut_more front p h e = grind (arith, common_steps)
 
 -- some events, after which nothing is open
 pub record Ends (profile : Profile) (s t : Core) : Type 0 where

@@ -10,7 +10,7 @@ use Rattle.gw_table.specs.Maps.{Maps}
 use Rattle.gw_board.specs.Alone.{is_unclosed_at, IsFirstUnclosed, IsWholeTable}
 use Rattle.gw_board.specs.Boards.{Seen, core_of, is_closed, is_pending_at, AllClosed}
 use Rattle.gw_board.specs.Carried.{keys_of}
-use Rattle.gw_board.specs.Core.{Core, Standing, Pending, Opened, Closed, Place}
+use Rattle.gw_board.specs.Core.{Core, Standing, Place}
 use Rattle.gw_board.specs.Named.{IsNoneOfWave}
 use Rattle.gw_board.specs.Planned.{IsPlan}
 use Rattle.gw_board.specs.Results.{NothingIsOpen}
@@ -41,9 +41,7 @@ first_in test (suc n) a i low high t f = by (nat_eq i a) refl (λ later. first_i
 -- ---- closed places
 
 shut : (x : Standing) → not (is_closed x) ≡ false → is_pending x ≡ false
-shut Pending e = absurd cc
-shut (Opened j) e = absurd cc
-shut (Closed reply) e = refl
+shut x e = grind arith
 
 none_pends_before : (places : List Place) (i k : ℕ) → AllClosed (take i places) → k < i → is_pending_at (slice_get places k) ≡ false
 none_pends_before places zero k h l = absurd (omega arith)
@@ -52,8 +50,7 @@ none_pends_before (p ∷ ps) (suc i) zero h l = shut p.standing (neither (not (i
 none_pends_before (p ∷ ps) (suc i) (suc k) h l = none_pends_before ps i k (neither (not (is_closed p.standing)) (list_any (λ q. not (is_closed q.standing)) (take i ps)) h).1 (omega arith)
 
 pub not_free : (m : Maps) (earlier : List Place) (o : Option Place) → is_pending_at o ≡ false → is_free m earlier o ≡ false
-not_free m earlier None h = refl
-not_free m earlier (Some p) h = ap (λ b. b && not (meets_pending (keys_of p.requested m) m earlier)) h
+not_free m earlier o h = grind arith
 
 -- none of them is in a wave
 pub closed_none : (places : List Place) (n i : ℕ) → AllClosed (take n places) → i < n → (m : Maps) → IsNoneOfWave m places i
@@ -84,8 +81,7 @@ inside (p ∷ ps) zero h = omega arith
 inside (p ∷ ps) (suc i) h = let l : i < length ps = inside ps i h in omega (arith, l)
 
 free_first : (m : Maps) (earlier : List Place) (o : Option Place) → is_pending_at o ≡ true → ((keys : List Key) → meets_pending keys m earlier ≡ false) → is_free m earlier o ≡ true
-free_first m earlier None h f = absurd cc
-free_first m earlier (Some p) h f = λ i. h i && not (f (keys_of p.requested m) i)
+free_first m earlier o h f = grind arith
 
 wave_begins : (b : Seen) (first : ℕ) → NothingIsOpen (core_of b) → IsFirstUnclosed b.places first → slice_get (wave (core_of b)) 0 ≡ Some first
 wave_begins b first none is =

@@ -1,5 +1,5 @@
 -- Places are carried out one after another on a draft of whole tables: nothing is open, and the draft has the maps of a board on its way.
-use Rattle.std.proofs.Common.{◌≡◌, ◌≤◌, ◌+◌, ℕ, zero, suc, Bool, true, false, cond, not, List, [], ◌∷◌, ◌++◌, map, take, drop, refl, sym, ap, subst, ◌∙◌, arith, add-one}
+use Rattle.std.proofs.Common.{◌≡◌, ◌≤◌, ◌+◌, ℕ, zero, suc, Bool, true, false, cond, not, List, [], ◌∷◌, ◌++◌, map, take, drop, refl, sym, ap, ◌∙◌, arith, add-one}
 use Rattle.std.specs.Prelude.{◌||◌, slice_get}
 use Rattle.std.specs.List.{list_any}
 use Rattle.gw_base.specs.declared.key.Key.{Key}
@@ -55,22 +55,14 @@ fewer_behind [] (suc m) zero l = omega arith
 fewer_behind [] (suc m) (suc n) l = omega arith
 fewer_behind (p ∷ ps) zero zero l = omega arith
 fewer_behind (p ∷ ps) (suc m) zero l = absurd (omega arith)
-fewer_behind (p ∷ ps) zero (suc n) l = by (is_closed p.standing) (fewer_behind ps 0 n (omega arith))
-  where
-    by : (b : Bool) → unclosed (drop n ps) ≤ unclosed ps → unclosed (drop n ps) ≤ cond b (unclosed ps) (suc (unclosed ps))
-    by true e = e
-    by false e = omega arith
+fewer_behind (p ∷ ps) zero (suc n) l = grind (arith, fewer_behind ps 0 n (omega arith))
 fewer_behind (p ∷ ps) (suc m) (suc n) l = fewer_behind ps m n (omega arith)
 
 -- ---- a draft
 
 -- a draft of whole tables covers whatever is needed
 pub covers_over : (limit : ℕ) (p : Parted) (s : Stored) → p.keys ≡ Over s → AreWellFormed limit p.maps → (needed : List Key) → Covers p needed
-covers_over limit p s e well needed = subst (λ (x : Parted). Covers x needed) (λ j. record { keys = sym e j; maps = p.maps }) (record {
-  sound = record { recorded = λ t n k h. well.recorded t n h; once = well.once };
-  entries = record { terms = λ t h. refl; contexts = λ n h. refl };
-  held = λ k h. refl;
-})
+covers_over limit p s e well needed = grind arith
 
 -- it begins at the tables that it was made of
 pub begun_at : {tables s : Stored} → s ≡ tables → {first : Parted} {keys : PartKeys} → first ≡ record { keys = Over s; maps = maps_of s } → keys ≡ first.keys → start_of keys ≡ tables
@@ -78,9 +70,7 @@ begun_at is made same = ap start_of (same ∙ ap (λ (p : Parted). p.keys) made)
 
 -- what is neither pending nor open is closed
 settled : (x : Standing) → is_open x ≡ false → is_pending x ≡ false → is_closed x ≡ true
-settled Pending e f = absurd cc
-settled (Opened j) e f = absurd cc
-settled (Closed reply) e f = refl
+settled x e f = grind arith
 
 -- a place that is passed by
 pub passed_closed : (places : List Place) (i : ℕ) → list_any (λ p. is_open p.standing) places ≡ false → is_pending_at (slice_get places i) ≡ false → AllClosed (take i places) → AllClosed (take (suc i) places)

@@ -1,10 +1,10 @@
 -- Places that join those that are free, and what is not in a wave.
+use Rattle.std.proofs.lemmas.Grind.{common_steps}
 use Rattle.std.proofs.Common.{nat_eq, ◌≡◌, ℕ, zero, suc, ◌+◌, ◌<◌, ◌≤◌, Bool, true, false, List, [], ◌∷◌, ◌++◌, length, slice_index_or, take, drop, Option, None, Some, refl, sym, ap, subst, ◌∙◌, arith, add-one, eqb-true, eq-eqb}
 use Rattle.std.specs.Prelude.{◌||◌, slice_get, slice_set, IfSome}
 use Rattle.std.specs.List.{All, list_any}
-use Rattle.std.specs.BinaryHeap.{heap_items}
 use Rattle.std.specs.List.Sorted.{IsPermutation}
-use Rattle.std.proofs.lemmas.List.Elements.{All-head, All-tail, All-weaker}
+use Rattle.std.proofs.lemmas.List.Elements.{All-head, All-tail}
 use Rattle.std.proofs.lemmas.List.Folds.{list_any-append}
 use Rattle.std.proofs.lemmas.List.Sorted.{list_any-IsPermutation}
 use Rattle.gw_base.proofs.Booleans.{refuted, neither}
@@ -13,7 +13,6 @@ use Rattle.gw_table.specs.Maps.{Maps}
 use Rattle.gw_board.specs.Alone.{AreSameBeside}
 use Rattle.gw_board.specs.Boards.{requested_in, is_pending_at, AllClosed}
 use Rattle.gw_board.specs.Candidates.{is_in, any_pending, places_in, IsListed, AreListed, IsFreeAt, AreFree, AreFreeBut, AreCandidates, AreCandidatesBut}
-use Rattle.gw_board.specs.Carried.{BurstRequest}
 use Rattle.gw_board.specs.Core.{Place}
 use Rattle.gw_board.specs.Links.{IsLink, AreLinked}
 use Rattle.gw_board.specs.Named.{IsNoneOfWave}
@@ -22,7 +21,6 @@ use Rattle.gw_board.specs.declared.candidates.Candidates.{Candidates}
 use Rattle.gw_board.proofs.BoardEntryFacts.{length-requested, pending_inside, place_there}
 use Rattle.gw_board.proofs.CarriedAlone.{closed_there}
 use Rattle.gw_board.proofs.FirstOfWave.{not_free}
-use Rattle.gw_board.proofs.LeftOut.{below}
 use Rattle.gw_board.proofs.Linking.{on_some, link_behind}
 use Rattle.gw_board.proofs.Slices.{only_there}
 
@@ -33,19 +31,8 @@ got [] i x l e = absurd (omega arith)
 got (y ∷ ys) zero x l e = ap (λ z. Some z) (sym e)
 got (y ∷ ys) (suc i) x l e = got ys i x (omega arith) e
 
-pub none_got : {X : Type 0} (xs : List X) (i : ℕ) → length xs ≤ i → slice_get xs i ≡ None
-none_got [] i l = refl
-none_got (y ∷ ys) zero l = absurd (omega arith)
-none_got (y ∷ ys) (suc i) l = none_got ys i (omega arith)
-
 pub same_top : (xs : List ℕ) (x y : ℕ) → 0 < length xs → x ≡ slice_index_or xs 0 x → y ≡ slice_index_or xs 0 y → x ≡ y
-same_top [] x y l e f = absurd (omega arith)
-same_top (z ∷ zs) x y l e f = e ∙ sym f
-
-pub in_at : (i : ℕ) (xs : List ℕ) (k x : ℕ) → k < length xs → x ≡ slice_index_or xs k x → x ≡ i → is_in i xs ≡ true
-in_at i [] k x l e s = absurd (omega arith)
-in_at i (y ∷ ys) zero x l e s = or_left (nat_eq i y) (is_in i ys) (eq-eqb i y (sym s ∙ e))
-in_at i (y ∷ ys) (suc k) x l e s = or_right (nat_eq i y) (is_in i ys) (in_at i ys k x (omega arith) e s)
+same_top xs x y l e f = grind (arith, common_steps)
 
 pub in_front : (i p : ℕ) (xs : List ℕ) → is_in i xs ≡ true → is_in i (xs ++ p ∷ []) ≡ true
 in_front i p xs h = list_any-append (nat_eq i) xs (p ∷ []) ∙ or_left (is_in i xs) (is_in i (p ∷ [])) h
@@ -67,58 +54,10 @@ listed_stays (x ∷ xs) zero i (suc l) v f h = h
 listed_stays (x ∷ xs) (suc e) i zero v f h = h
 listed_stays (x ∷ xs) (suc e) i (suc l) v f h = listed_stays xs e i l v f h
 
-pub listed_more : (links : List (List ℕ)) (place : ℕ) (own : List ℕ) (old new : List (List ℕ)) → place < length links → own ≡ slice_index_or links place own
-    → ((i : ℕ) → i < place → IfSome (slice_get links i) (All (IsListed old i))) → All (IsListed new place) own → ((i l : ℕ) → IsListed old i l → IsListed new i l)
-    → (i : ℕ) → i < place + 1 → IfSome (slice_get links i) (All (IsListed new i))
-listed_more links place own old new inside is so_far all stay i low = by (nat_eq i place) refl
-  where
-    by : (b : Bool) → nat_eq i place ≡ b → IfSome (slice_get links i) (All (IsListed new i))
-    by true e =
-        subst (λ k. IfSome (slice_get links k) (All (IsListed new k))) (sym (eqb-true i place e))
-        (subst (λ o. IfSome o (All (IsListed new place))) (sym (got links place own inside is)) all)
-    by false e =
-        let differ : i ≡ place → ⊥ = λ s. let clash : true ≡ false = sym (eq-eqb i place s) ∙ e in cc in
-        on_some (All (IsListed old i)) (All (IsListed new i)) (slice_get links i) (λ ls a. All-weaker (IsListed old i) (IsListed new i) (stay i) ls a) (so_far i (omega (arith, low, differ)))
-
--- what holds of the first n holds of all, where there are no more
-pub each_some : (links : List (List ℕ)) (P : ℕ → List ℕ → Type 0) (n : ℕ) → length links ≤ n → ((i : ℕ) → i < n → IfSome (slice_get links i) (P i)) → (i : ℕ) → IfSome (slice_get links i) (P i)
-each_some links P n all f i = by (slice_get links i) refl
-  where
-    by : (o : Option (List ℕ)) → slice_get links i ≡ o → IfSome o (P i)
-    by None e = tt
-    by (Some ls) e = let low : i < length links = below links i ls e in subst (λ o. IfSome o (P i)) e (f i (omega (arith, low, all)))
-
--- links are earlier places
-pub before_all : (requested : List BurstRequest) (links : List (List ℕ)) → AreLinked requested links → (i : ℕ) → IfSome (slice_get links i) (All (λ l. l < i))
-before_all requested links h i = on_some (All (IsLink requested i)) (All (λ l. l < i)) (slice_get links i) (λ ls a. All-weaker (IsLink requested i) (λ l. l < i) (λ l x. x.before) ls a) (h i)
-
 -- ---- free places
 
 pub free_in : (places : List Place) (links : List (List ℕ)) (free : List ℕ) (i : ℕ) → is_in i free ≡ true → IsFreeAt places links free i
-free_in places links free i h = by (slice_get links i)
-  where
-    by : (o : Option (List ℕ)) → IfSome o (λ ls. any_pending places ls ≡ false → is_in i free ≡ true)
-    by None = tt
-    by (Some ls) = λ none. h
-
-pub waits_at : (places : List Place) (links : List (List ℕ)) (free : List ℕ) (i : ℕ) (ls : List ℕ) → slice_get links i ≡ Some ls → any_pending places ls ≡ true → IsFreeAt places links free i
-waits_at places links free i ls e h = subst (λ o. IfSome o (λ (l : List ℕ). any_pending places l ≡ false → is_in i free ≡ true)) (sym e) (λ none. absurd (let clash : true ≡ false = sym h ∙ none in cc))
-
-pub past_end : (places : List Place) (links : List (List ℕ)) (free : List ℕ) (i : ℕ) → length links ≤ i → IsFreeAt places links free i
-past_end places links free i l = subst (λ o. IfSome o (λ (ls : List ℕ). any_pending places ls ≡ false → is_in i free ≡ true)) (sym (none_got links i l)) tt
-
-pub free_stays : (places : List Place) (links : List (List ℕ)) (old new : List ℕ) (i : ℕ) → (is_in i old ≡ true → is_in i new ≡ true) → IsFreeAt places links old i → IsFreeAt places links new i
-free_stays places links old new i stay h = on_some (λ ls. any_pending places ls ≡ false → is_in i old ≡ true) (λ ls. any_pending places ls ≡ false → is_in i new ≡ true) (slice_get links i) (λ ls f none. stay (f none)) h
-
-pub free_more : (places : List Place) (links : List (List ℕ)) (old new : List ℕ) (n : ℕ) → ((i : ℕ) → suc n ≤ i → IsFreeAt places links old i) → ((i : ℕ) → is_in i old ≡ true → is_in i new ≡ true) → IsFreeAt places links new n
-    → (i : ℕ) → n ≤ i → IsFreeAt places links new i
-free_more places links old new n so_far stay own i low = by (nat_eq i n) refl
-  where
-    by : (b : Bool) → nat_eq i n ≡ b → IsFreeAt places links new i
-    by true e = subst (IsFreeAt places links new) (sym (eqb-true i n e)) own
-    by false e =
-        let differ : i ≡ n → ⊥ = λ s. let clash : true ≡ false = sym (eq-eqb i n s) ∙ e in cc in
-        free_stays places links old new i (stay i) (so_far i (omega (arith, low, differ)))
+free_in places links free i h = grind arith
 
 -- ---- tests on lists
 
@@ -153,17 +92,10 @@ pends_other (q ∷ qs) (suc p) zero new d h = h
 pends_other (q ∷ qs) (suc p) (suc l) new d h = pends_other qs p l new (λ s. d (ap suc s)) h
 
 is_it_or_pends : (places : List Place) (p l : ℕ) (new : Place) → is_pending_at (slice_get places l) ≡ true → (nat_eq p l || is_pending_at (slice_get (slice_set places p new) l)) ≡ true
-is_it_or_pends places p l new h = by (nat_eq p l) refl
-  where
-    by : (b : Bool) → nat_eq p l ≡ b → (nat_eq p l || is_pending_at (slice_get (slice_set places p new) l)) ≡ true
-    by true e = or_left (nat_eq p l) (is_pending_at (slice_get (slice_set places p new) l)) e
-    by false e = or_right (nat_eq p l) (is_pending_at (slice_get (slice_set places p new) l)) (pends_other places p l new (λ s. let clash : true ≡ false = sym (eq-eqb p l s) ∙ e in cc) h)
+is_it_or_pends places p l new h = grind (arith, or_left, or_right, pends_other, eq-eqb)
 
 free_but : (places : List Place) (p : ℕ) (new : Place) (links : List (List ℕ)) (free : List ℕ) → is_pending new.standing ≡ false → AreFree places links free → AreFreeBut p (slice_set places p new) links free
-free_but places p new links free n h i pends =
-    on_some (λ ls. any_pending places ls ≡ false → is_in i free ≡ true) (λ ls. list_any (λ l. nat_eq p l || is_pending_at (slice_get (slice_set places p new) l)) ls ≡ false → is_in i free ≡ true) (slice_get links i)
-    (λ ls f none. f (any_false (λ l. nat_eq p l || is_pending_at (slice_get (slice_set places p new) l)) (λ l. is_pending_at (slice_get places l)) (λ l. is_it_or_pends places p l new) ls none))
-    (h i (pends_still places p i new n pends))
+free_but places p new links free n h i pends = grind (arith, on_some, any_false, is_it_or_pends, pends_still)
 
 -- ---- one that was not pending, and is not
 
@@ -175,20 +107,12 @@ pends_yet (q ∷ qs) (suc p) zero old new e n h = h
 pends_yet (q ∷ qs) (suc p) (suc l) old new e n h = pends_yet qs p l old new e n h
 
 free_yet : (places : List Place) (p : ℕ) (old new : Place) (links : List (List ℕ)) (free : List ℕ) → slice_get places p ≡ Some old → is_pending old.standing ≡ false → is_pending new.standing ≡ false → AreFree places links free → AreFree (slice_set places p new) links free
-free_yet places p old new links free e was n h i pends =
-    on_some (λ ls. any_pending places ls ≡ false → is_in i free ≡ true) (λ ls. any_pending (slice_set places p new) ls ≡ false → is_in i free ≡ true) (slice_get links i)
-    (λ ls f none. f (any_false (λ l. is_pending_at (slice_get (slice_set places p new) l)) (λ l. is_pending_at (slice_get places l)) (λ l. pends_yet places p l old new e was) ls none))
-    (h i (pends_still places p i new n pends))
+free_yet places p old new links free e was n h i pends = grind (arith, on_some, any_false, pends_yet, pends_still)
 
 -- ---- the links stay
 
 pub candidates_but : (old new : List Place) (p : ℕ) (x : Place) (c : Candidates) → new ≡ slice_set old p x → requested_in new ≡ requested_in old → is_pending x.standing ≡ false → AreCandidates old c → AreCandidatesBut p new c
-candidates_but old new p x c e same n h = record {
-  linked = subst (λ (l : List BurstRequest). AreLinked l c.links.items) (sym same) h.linked;
-  listed = h.listed;
-  free = subst (λ (l : List Place). AreFreeBut p l c.links.items (heap_items c.free)) (sym e) (free_but old p x c.links.items (heap_items c.free) n h.free);
-  ordered = h.ordered;
-}
+candidates_but old new p x c e same n h = grind (arith, free_but)
 
 -- it is the one that was closed
 pub candidates_beside : (old new : List Place) (p end : ℕ) (c : Candidates) → end ≡ p + 1 → is_pending_at (slice_get old p) ≡ true → requested_in new ≡ requested_in old → AreSameBeside p end old new → AllClosed (take end new) → AreCandidates old c → AreCandidatesBut p new c
@@ -203,12 +127,7 @@ candidates_beside old new p end c e pends same beside closed h =
     same (closed_there new p now.0 now.1 (subst (λ n. AllClosed (take n new)) next closed)) h
 
 pub candidates_yet : (old new : List Place) (p : ℕ) (was x : Place) (c : Candidates) → new ≡ slice_set old p x → requested_in new ≡ requested_in old → slice_get old p ≡ Some was → is_pending was.standing ≡ false → is_pending x.standing ≡ false → AreCandidates old c → AreCandidates new c
-candidates_yet old new p was x c e same there off n h = record {
-  linked = subst (λ (l : List BurstRequest). AreLinked l c.links.items) (sym same) h.linked;
-  listed = h.listed;
-  free = subst (λ (l : List Place). AreFree l c.links.items (heap_items c.free)) (sym e) (free_yet old p was x c.links.items (heap_items c.free) there off n h.free);
-  ordered = h.ordered;
-}
+candidates_yet old new p was x c e same there off n h = grind (arith, free_yet)
 
 -- ---- those that were linked to it have joined
 

@@ -1,6 +1,6 @@
 -- Which places are in a wave, and what keeps the others out.
-use Rattle.std.proofs.Common.{nat_eq, ◌≡◌, ℕ, zero, suc, ◌+◌, ◌<◌, ◌≤◌, Bool, true, false, cond, ◌&&◌, not, List, [], ◌∷◌, length, take, Some, refl, sym, ap, ◌∙◌, arith, eqb-true, eq-eqb}
-use Rattle.std.specs.Prelude.{◌||◌, slice_get, filter}
+use Rattle.std.proofs.Common.{nat_eq, ◌≡◌, ℕ, zero, suc, ◌+◌, ◌<◌, ◌≤◌, Bool, true, false, cond, ◌&&◌, List, [], ◌∷◌, length, take, Some, refl, sym, ap, ◌∙◌, arith, eqb-true}
+use Rattle.std.specs.Prelude.{slice_get, filter}
 use Rattle.std.specs.List.{list_any, range_with_len}
 use Rattle.gw_base.specs.declared.key.Key.{Key}
 use Rattle.gw_base.proofs.NamesInLists.{or_cases, or_left, or_right, either}
@@ -8,7 +8,7 @@ use Rattle.gw_table.specs.Maps.{Maps}
 use Rattle.gw_foot.specs.Meets.{meets}
 use Rattle.gw_board.specs.Carried.{BurstRequest, keys_of}
 use Rattle.gw_board.specs.Core.{Standing, Pending, Opened, Closed, Place, Core, pending}
-use Rattle.gw_board.specs.Waves.{is_pending, meets_pending, is_free, wave, IsMet}
+use Rattle.gw_board.specs.Waves.{is_pending, meets_pending, wave, IsMet}
 
 -- ---- places
 
@@ -31,9 +31,7 @@ earlier_one (y ∷ ys) (suc i) (suc j) x e = let h : IsEarlier ys i j x = earlie
 -- ---- a place that is free is in the wave
 
 pub other : (i a : ℕ) → a ≤ i → nat_eq i a ≡ false → a + 1 ≤ i
-other i a low e =
-    let differ : i ≡ a → ⊥ = λ s. let clash : true ≡ false = sym (eq-eqb i a s) ∙ e in cc in
-    omega (arith, low, differ)
+other i a low e = grind arith
 
 found : (test : ℕ → Bool) (n a i : ℕ) → a ≤ i → i < a + n → test i ≡ true → list_any (nat_eq i) (filter test (range_with_len a n)) ≡ true
 found test zero a i low high t = absurd (omega (arith, low, high))
@@ -47,9 +45,7 @@ found test (suc n) a i low high t = by (nat_eq i a) refl (test a) refl (λ e. fo
     by false e false f later = later e
 
 pub free_is_in : (s : Core) (i : ℕ) (a : BurstRequest) → slice_get s.places i ≡ Some (pending a) → meets_pending (keys_of a s.maps) s.maps (take i s.places) ≡ false → list_any (nat_eq i) (wave s) ≡ true
-free_is_in s i a e h =
-    found (λ k. is_free s.maps (take k s.places) (slice_get s.places k)) (length s.places) 0 i (omega arith) (omega (arith, below s.places i (pending a) e))
-    (ap (is_free s.maps (take i s.places)) e ∙ ap (λ b. not b) h)
+free_is_in s i a e h = grind (arith, found, below)
 
 -- ---- and what is not in it is met
 
@@ -84,11 +80,7 @@ left_out s i a e out = by (meets_pending (keys_of a s.maps) s.maps (take i s.pla
 -- the first pending place is in it
 pub none_pending : (keys : List Key) (m : Maps) (places : List Place) → list_any (λ p. is_pending p.standing) places ≡ false → meets_pending keys m places ≡ false
 none_pending keys m [] h = refl
-none_pending keys m (p ∷ ps) h = by (is_pending p.standing) h (none_pending keys m ps)
-  where
-    by : (b : Bool) → (b || list_any (λ p. is_pending p.standing) ps) ≡ false → (list_any (λ p. is_pending p.standing) ps ≡ false → meets_pending keys m ps ≡ false) → ((b && meets (keys_of p.requested m) keys) || meets_pending keys m ps) ≡ false
-    by true e f = absurd cc
-    by false e f = f e
+none_pending keys m (p ∷ ps) h = grind (arith, none_pending keys m ps)
 
 pub first_is_in : (s : Core) (i : ℕ) (a : BurstRequest) → slice_get s.places i ≡ Some (pending a) → list_any (λ p. is_pending p.standing) (take i s.places) ≡ false → list_any (nat_eq i) (wave s) ≡ true
 first_is_in s i a e h = free_is_in s i a e (none_pending (keys_of a s.maps) s.maps (take i s.places) h)

@@ -2,14 +2,12 @@
 use Rattle.std.proofs.Common.{nat_eq, ◌≡◌, ℕ, zero, suc, ◌+◌, ◌<◌, Bool, true, false, cond, ◌&&◌, bytes_eq, List, [], ◌∷◌, ◌++◌, length, Option, None, Some, inl, inr, ◌⊎◌, refl, sym, ap, subst, ◌∙◌, arith}
 use Rattle.std.specs.Prelude.{slice_get, IfSome}
 use Rattle.std.specs.List.{All}
-use Rattle.std.specs.Map.{lookup}
 use Rattle.std.specs.Option.{option_to_list}
 use Rattle.std.proofs.lemmas.List.Elements.{All-nil, All-cons, All-append}
 use Rattle.indexmap.specs.IndexMap.{get}
 use Rattle.gw_base.specs.declared.ids.CtxNum.{CtxNum}
 use Rattle.gw_base.specs.declared.key.Key.{Key}
 use Rattle.gw_base.specs.declared.key.Key.TheVariants.{Term, Ctx, Whole}
-use Rattle.gw_base.proofs.NamesInLists.{either}
 use Rattle.gw_base.proofs.NameTests.{same_name, same_number}
 use Rattle.gw_table.specs.Maps.{Maps}
 use Rattle.gw_board.specs.Boards.{requested_in, is_pending_at}
@@ -49,27 +47,16 @@ same_there : (requested : List BurstRequest) (i : ℕ) (a b : BurstRequest) → 
 same_there requested i a b e f = ap (in_some a) (sym e ∙ f)
 
 pub on_some : {X : Type 0} (P Q : X → Type 0) (o : Option X) → ((x : X) → P x → Q x) → IfSome o P → IfSome o Q
-on_some P Q None f h = tt
-on_some P Q (Some x) f h = f x h
-
-pub none_named : (requested : List BurstRequest) (last : LastNamed) → ((k : Key) → last_named last k ≡ None) → AreLastNamed requested 0 last
-none_named requested last h k = subst (λ o. IfSome o (NamesBefore requested 0 k)) (sym (h k)) tt
+on_some P Q o f h = grind arith
 
 -- a key more, which the place names
 pub named_more : (requested : List BurstRequest) (i : ℕ) (b : BurstRequest) (key : Key) (old new : LastNamed) → slice_get requested i ≡ Some b → does_name b key ≡ true → AreLastNamed requested (i + 1) old
     → ((k : Key) → (last_named new k ≡ last_named old k) ⊎ ((k ≡ key) × (last_named new k ≡ Some i))) → AreLastNamed requested (i + 1) new
-named_more requested i b key old new e named so_far step k =
-    either (step k)
-    (λ same. subst (λ o. IfSome o (NamesBefore requested (i + 1) k)) (sym same) (so_far k))
-    (λ is. subst (λ o. IfSome o (NamesBefore requested (i + 1) k)) (sym is.1)
-    (record { before = omega arith; named = λ a f. (λ j. does_name (same_there requested i a b f e j) (is.0 j)) ∙ named }))
+named_more requested i b key old new e named so_far step k = grind arith
 
 -- and an earlier place that names it is a link
 pub named_link : (requested : List BurstRequest) (i l : ℕ) (b : BurstRequest) (key : Key) → slice_get requested i ≡ Some b → does_name b key ≡ true → l < i → NamesBefore requested (i + 1) key l → IsLink requested i l
-named_link requested i l b key e named first there = record {
-  before = first;
-  meet = λ x y f g m. named_meets x y key (there.named x f) (ap (λ (z : BurstRequest). does_name z key) (same_there requested i y b g e) ∙ named) m;
-}
+named_link requested i l b key e named first there = grind (arith, named_meets, same_there)
 
 pub links_more : (requested : List BurstRequest) (i : ℕ) (b : BurstRequest) (key : Key) (old : LastNamed) (links : List ℕ) (earlier : Option ℕ) → slice_get requested i ≡ Some b → does_name b key ≡ true → AreLastNamed requested (i + 1) old
     → IfSome earlier (λ p. (p < i) × (last_named old key ≡ Some p)) → All (IsLink requested i) links → All (IsLink requested i) (links ++ option_to_list earlier)
@@ -79,11 +66,6 @@ links_more requested i b key old links (Some l) e named so_far h all =
     (All-cons (IsLink requested i) l [] (named_link requested i l b key e named h.0 (subst (λ o. IfSome o (NamesBefore requested (i + 1) key)) h.1 (so_far key))) (All-nil (IsLink requested i)))
 
 -- ---- where it is kept
-
-pub none_yet : (last : LastNamed) → last.terms.entries ≡ [] → last.contexts.entries ≡ [] → (k : Key) → last_named last k ≡ None
-none_yet last e f (Term t) = ap (λ es. lookup (bytes_eq t) es) e
-none_yet last e f (Ctx n) = ap (λ es. lookup (nat_eq n.0) es) f
-none_yet last e f Whole = refl
 
 module _ (old new : LastNamed) (place : ℕ) where
   abbrev pub Was : Key → Key → Type 0

@@ -1,4 +1,5 @@
 -- A wave, one place after another.
+use Rattle.std.proofs.lemmas.Grind.{common_steps}
 use Rattle.std.proofs.Common.{◌≡◌, ℕ, zero, suc, ◌+◌, ◌≤◌, Bool, true, false, cond, ◌&&◌, not, List, [], ◌∷◌, ◌++◌, map, take, filter, Option, None, Some, is_some, refl, sym, ap, ◌∙◌, arith}
 use Rattle.std.specs.Prelude.{◌||◌, slice_get, IfSome}
 use Rattle.std.specs.List.{list_any, range_with_len}
@@ -13,7 +14,7 @@ use Rattle.gw_base.proofs.NamesInLists.{or_left, or_right, or_cases, either}
 use Rattle.gw_foot.specs.Meets.{meets}
 use Rattle.gw_board.specs.Boards.{Seen}
 use Rattle.gw_board.specs.Carried.{keys_of}
-use Rattle.gw_board.specs.Core.{Standing, Pending, Opened, Closed, Place, Core, pending, AreKeysOf}
+use Rattle.gw_board.specs.Core.{Place, Core, pending, AreKeysOf}
 use Rattle.gw_board.specs.Fitting.{Each}
 use Rattle.gw_board.specs.Planned.{IsReckoned, planned_with}
 use Rattle.gw_board.specs.Waiting.{is_waiting, meet_waiting}
@@ -22,12 +23,10 @@ use Rattle.gw_board.specs.declared.planned.Planned.{Planned}
 use Rattle.gw_board.specs.declared.waiting.Waiting.{Waiting}
 
 or_false : (b : Bool) → (b || false) ≡ b
-or_false true = refl
-or_false false = refl
+or_false b = grind arith
 
 pub or_group : (a b c : Bool) → (a || (b || c)) ≡ ((a || b) || c)
-or_group true b c = refl
-or_group false b c = refl
+or_group a b c = grind arith
 
 pub any-take_more : {X : Type 0} (f : X → Bool) (xs : List X) (i : ℕ) (x : X) → slice_get xs i ≡ Some x → list_any f (take (suc i) xs) ≡ (list_any f (take i xs) || f x)
 any-take_more f [] i x e = absurd cc
@@ -35,8 +34,7 @@ any-take_more f (y ∷ ys) zero x e = let same : y ≡ x = cc in or_false (f y) 
 any-take_more f (y ∷ ys) (suc i) x e = ap (λ b. f y || b) (any-take_more f ys i x e) ∙ or_group (f y) (list_any f (take i ys)) (f x)
 
 pub and_false : (b : Bool) → (b && false) ≡ false
-and_false true = refl
-and_false false = refl
+and_false b = grind arith
 
 range_more : (n : ℕ) → range_with_len 0 (n + 1) ≡ range_with_len 0 n ++ n ∷ []
 range_more n = sym (map-id (range_with_len 0 (n + 1))) ∙ (map-range_with_len_more (λ k. k) 0 n n (omega arith) ∙ ap (λ (ks : List ℕ). ks ++ n ∷ []) (map-id (range_with_len 0 n)))
@@ -64,8 +62,7 @@ those_more s n p waiting new e h f k =
 
 pub free_is : (s : Core) (n : ℕ) (p : Place) (waiting : Waiting) (free : Bool) → slice_get s.places n ≡ Some p → AreThose s n waiting
     → free ≡ (is_pending p.standing && not (meet_waiting waiting (keys_of p.requested s.maps))) → free ≡ free_at s n
-free_is s n p waiting free e h f =
-    f ∙ ap (λ b. is_pending p.standing && not b) (h (keys_of p.requested s.maps)) ∙ ap (is_free s.maps (take n s.places)) (sym e)
+free_is s n p waiting free e h f = grind arith
 
 -- ---- behind a place that has the whole of the tables
 
@@ -92,26 +89,17 @@ none_behind s n waiting h w i l = by (slice_get s.places i)
 -- ---- a place with its keys
 
 pub placed : (i : ℕ) (found : Option (List Key)) → map (λ (p : Planned). p.place) (planned_with i found) ≡ cond (is_some found) (i ∷ []) []
-placed i None = refl
-placed i (Some keys) = refl
+placed i found = grind arith
 
 pending_if : (p : Place) → is_pending p.standing ≡ true → p ≡ pending p.requested
-pending_if p h = by p.standing refl h
-  where
-    by : (x : Standing) → p.standing ≡ x → is_pending x ≡ true → p ≡ pending p.requested
-    by Pending e h = λ k. record { requested = p.requested; standing = e k }
-    by (Opened j) e h = absurd cc
-    by (Closed reply) e h = absurd cc
+pending_if p h = grind arith
 
 pub reckoned : (b : Seen) (i : ℕ) (p : Place) (found : Option (List Key)) (free : Bool) → slice_get b.places i ≡ Some p → is_some found ≡ (is_pending p.standing && free)
     → IfSome found (AreKeysOf p.requested b.maps) → Each (IsReckoned b) (planned_with i found)
-reckoned b i p None free e f g = tt
-reckoned b i p (Some keys) free e f g = (record { requested = p.requested; pends = e ∙ ap (λ x. Some x) (pending_if p (both (is_pending p.standing) free (sym f)).0); listed = g }, tt)
+reckoned b i p found free e f g = grind (arith, pending_if, both)
 
 pub each-append : {X : Type 0} (P : X → Type 0) (xs ys : List X) → Each P xs → Each P ys → Each P (xs ++ ys)
-each-append P [] ys h g = g
-each-append P (x ∷ xs) ys h g = (h.0, each-append P xs ys h.1 g)
+each-append P xs ys h g = grind (arith, common_steps)
 
 pub map-append : {X Y : Type 0} (f : X → Y) (xs ys : List X) → map f (xs ++ ys) ≡ map f xs ++ map f ys
-map-append f [] ys = refl
-map-append f (x ∷ xs) ys = ap (λ l. f x ∷ l) (map-append f xs ys)
+map-append f xs ys = grind (arith, common_steps)

@@ -27,9 +27,7 @@ others_behind front later apart k d h i e l same =
     (get_or_append_left front later d i l ∙ get_or_default front i d e l ∙ same ∙ sym (get_or-append-add front later k d))
 
 pairs_behind : (front later : List ℕ) → AllPairs (λ a b. a ≢ b) (front ++ later) → AllPairs (λ a b. a ≢ b) later
-pairs_behind front later apart i j d a b same =
-    apart (length front + i) (length front + j) d (omega (arith, a)) (omega (arith, length-append front later, b))
-    (get_or-append-add front later i d ∙ same ∙ sym (get_or-append-add front later j d))
+pairs_behind front later apart i j d a b same = grind (arith, length-append, get_or-append-add)
 
 all_behind : (P : ℕ → Type 0) (front later : List ℕ) → All P (front ++ later) → All P later
 all_behind P front later a k d h = subst P (get_or-append-add front later k d) (a (length front + k) d (omega (arith, length-append front later, h)))

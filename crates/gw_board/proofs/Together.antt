@@ -1,16 +1,16 @@
 -- The places of a wave are opened one after another.
-use Rattle.std.proofs.Common.{◌≡◌, ℕ, ◌+◌, Bool, true, false, cond, ◌&&◌, not, List, [], ◌∷◌, ◌++◌, length, take, Option, None, Some, is_some, refl, sym, ap, subst, ◌∙◌, inl, arith, append-nil}
+use Rattle.std.proofs.Common.{◌≡◌, ℕ, ◌+◌, Bool, true, false, cond, ◌&&◌, not, List, [], ◌∷◌, ◌++◌, length, take, Option, None, Some, is_some, refl, sym, ap, subst, ◌∙◌, arith, append-nil}
 use Rattle.std.specs.Prelude.{◌||◌, slice_get, slice_set, filter}
 use Rattle.std.specs.List.{list_any, range_with_len}
 use Rattle.std.proofs.Math.Seq.{take-append_seam}
 use Rattle.std.proofs.lemmas.List.{length-append}
 use Rattle.gw_base.specs.declared.ids.CtxNum.{CtxNum}
 use Rattle.gw_base.specs.declared.key.Key.{Key}
-use Rattle.gw_base.specs.declared.key.Key.TheVariants.{Term, Ctx, Whole}
+use Rattle.gw_base.specs.declared.key.Key.TheVariants.{Whole}
 use Rattle.gw_base.specs.Keys.{has, Among, AreApart}
 use Rattle.gw_base.proofs.Booleans.{neither}
 use Rattle.gw_base.proofs.KeyTests.{apart_turned}
-use Rattle.gw_table.specs.Maps.{Maps, term, ctx, place_of, members_of}
+use Rattle.gw_table.specs.Maps.{Maps, place_of, members_of}
 use Rattle.gw_table.specs.Parts.{restricted, cut, Only, IsPart}
 use Rattle.gw_table.proofs.PartLookups.{term-cut, ctx-cut}
 use Rattle.gw_reserve.specs.Owned.{paired}
@@ -33,28 +33,19 @@ use Rattle.gw_board.specs.Fitting.{Each, out_at, out}
 -- ---- while entries are out no key is told that would not be otherwise
 
 none_new : {X : Type 0} (b : Bool) (o : Option X) → is_some (cond b None o) ≡ true → is_some o ≡ true
-none_new true o h = absurd cc
-none_new false o h = h
+none_new b o h = grind arith
 
 part_of_cut : (keys o : List Key) (m : Maps) → IsPart (Only keys) m → IsPart (Only keys) (cut o m)
-part_of_cut keys o m p = record {
-  terms = λ t h. p.terms t (none_new (has o (Term t)) (term m t) (ap (λ x. is_some x) (sym (term-cut o m t)) ∙ h));
-  contexts = λ n h. p.contexts n (none_new (has o (Ctx n)) (ctx m n) (ap (λ x. is_some x) (sym (ctx-cut o m n)) ∙ h));
-}
+part_of_cut keys o m p = grind (arith, none_new, term-cut, ctx-cut)
 
 old_place : (b : Bool) (o : Option Termination) (c : CtxNum) → place_of (cond b None o) ≡ Some c → place_of o ≡ Some c
-old_place true o c e = absurd cc
-old_place false o c e = e
+old_place b o c e = grind arith
 
 old_member : (b : Bool) (o : Option ContextRecord) (t : List ℕ) → is_in t (members_of (cond b None o)) ≡ true → is_in t (members_of o) ≡ true
-old_member true o t h = absurd cc
-old_member false o t h = h
+old_member b o t h = grind arith
 
 grows_cut : (keys o : List Key) (m : Maps) → Grows (Only keys) m (cut o m)
-grows_cut keys o m = record {
-  places = λ t c e. inl (old_place (has o (Term t)) (term m t) c (ap (λ x. place_of x) (sym (term-cut o m t)) ∙ e));
-  members = λ c t h. inl (old_member (has o (Ctx c)) (ctx m c) t (ap (λ x. is_in t (members_of x)) (sym (ctx-cut o m c)) ∙ h));
-}
+grows_cut keys o m = grind (arith, old_place, term-cut, old_member, ctx-cut)
 
 pub keys_fewer : (a : BurstRequest) (o : List Key) (m : Maps) → Among (keys_of a (cut o m)) (keys_of a m)
 keys_fewer a o m =

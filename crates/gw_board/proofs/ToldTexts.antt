@@ -1,5 +1,5 @@
 -- The text of a reply of which was told within the limit of its message.
-use Rattle.std.proofs.Common.{◌≡◌, ℕ, ◌+◌, ◌≤◌, nat_le, Bool, true, false, List, drop, length, codes, decimal, ◌++◌, Result, Ok, Err, arith, length-append, refl, ap, sym, ◌∙◌}
+use Rattle.std.proofs.Common.{◌≡◌, ℕ, ◌+◌, Bool, true, false, List, drop, length, codes, decimal, ◌++◌, Result, arith, length-append, refl, ap}
 use Rattle.std.specs.Prelude.{if◌then◌else◌}
 use Rattle.std.proofs.lemmas.Bool.{leb-true, leb-false, le-leb}
 use Rattle.gw_base.proofs.Booleans.{refuted}
@@ -7,7 +7,7 @@ use Rattle.gw_base.specs.declared.code.Code.{Code}
 use Rattle.gw_base.specs.declared.command_words.Rules.{Rules}
 use Rattle.gw_base.specs.declared.ids.TxId.{TxId}
 use Rattle.gw_msg.specs.declared.message.Request.{Request}
-use Rattle.gw_reply.specs.Messages.{message_text, longest_message, too_long, reply_text}
+use Rattle.gw_reply.specs.Messages.{message_text, too_long, reply_text}
 use Rattle.gw_reply.proofs.Framed.{without_comma}
 use Rattle.gw_reply.specs.Lists.{in_braces}
 use Rattle.gw_reply.specs.Replies.{action_reply_text, framed_reply, later_replies, replies_text, transaction_reply_text}
@@ -27,20 +27,17 @@ same_id rules r owners m = refl
 
 -- what is told is told of a reply that is not too long
 by_whole : (b : Bool) (text all : List ℕ) → Whole text ≡ (let t : LimitedText = if b then Whole all else TooLong in t) → (text ≡ all) × (b ≡ true)
-by_whole true text all e = (cc, refl)
-by_whole false text all e = absurd cc
+by_whole b text all e = grind arith
 
 by_long : (b : Bool) (all : List ℕ) → TooLong ≡ (let t : LimitedText = if b then Whole all else TooLong in t) → b ≡ false
-by_long true all e = absurd cc
-by_long false all e = refl
+by_long b all e = grind arith
 
 length-message : (mid body : List ℕ) → length (message_text mid body) ≡ length mid + 10 + length body
 length-message mid body = omega (arith, length-append (mid ++ codes "\n") body, length-append mid (codes "\n"))
 
 -- between the braces of a reply stand its actions, of which the first has no comma before it
 joined : (r : Result (List ActionReply) Code) → drop 1 (later_replies action_reply_text r) ≡ replies_text action_reply_text r
-joined (Ok replies) = without_comma action_reply_text replies
-joined (Err code) = refl
+joined r = grind (arith, without_comma)
 
 framed_is : (reply : TxReply) → framed_reply reply.id (later_replies action_reply_text reply.result) ≡ transaction_reply_text reply
 framed_is reply = ap (λ (t : List ℕ). codes "Reply=" ++ decimal reply.id.0 ++ in_braces t) (joined reply.result)
@@ -48,32 +45,13 @@ framed_is reply = ap (λ (t : List ℕ). codes "Reply=" ++ decimal reply.id.0 ++
 -- what is told in its frame is the message of the reply
 pub told_is : (mid text : List ℕ) (reply : TxReply) → Whole text ≡ within (reply_limit mid) reply → message_text mid (framed_reply reply.id text) ≡ reply_text mid reply
 unfolding reply_text
-told_is mid text reply e =
-    let body : List ℕ = transaction_reply_text reply in
-    let whole : List ℕ = message_text mid body in
-    let limited_text = by_whole (nat_le (length body) (reply_limit mid)) text (later_replies action_reply_text reply.result) e in
-    let le = leb-true (length body) (reply_limit mid) limited_text.1 in
-    let some : 1 ≤ length body = omega arith in
-    let fits : nat_le (length whole) longest_message ≡ true = le-leb (length whole) longest_message (omega (arith, le, some, length-message mid body)) in
-    ap (λ (t : List ℕ). message_text mid (framed_reply reply.id t)) limited_text.0 ∙ ap (λ (t : List ℕ). message_text mid t) (framed_is reply)
-    ∙ sym (ap (λ (b : Bool). if b then whole else message_text mid (transaction_reply_text (too_long reply.id))) fits)
+told_is mid text reply e = grind (arith, by_whole, leb-true, le-leb, length-message, framed_is)
 
 -- one that is too long is told as error 533, as this error itself is
 short_text : (mid : List ℕ) (id : TxId) → reply_text mid (too_long id) ≡ message_text mid (transaction_reply_text (too_long id))
 unfolding reply_text
-short_text mid id = by (nat_le (length (message_text mid (transaction_reply_text (too_long id)))) longest_message)
-  where
-    by : (b : Bool) → (if b then message_text mid (transaction_reply_text (too_long id)) else message_text mid (transaction_reply_text (too_long id))) ≡ message_text mid (transaction_reply_text (too_long id))
-    by true = refl
-    by false = refl
+short_text mid id = grind arith
 
 pub too_long_is : (mid : List ℕ) (reply : TxReply) → TooLong ≡ within (reply_limit mid) reply → reply_text mid (too_long reply.id) ≡ reply_text mid reply
 unfolding reply_text
-too_long_is mid reply e =
-    let body : List ℕ = transaction_reply_text reply in
-    let whole : List ℕ = message_text mid body in
-    let more = leb-false (length body) (reply_limit mid) (by_long (nat_le (length body) (reply_limit mid)) (later_replies action_reply_text reply.result) e) in
-    let size = length-message mid body in
-    let not : nat_le (length whole) longest_message ≡ false = refuted (nat_le (length whole) longest_message) (λ t. let le = leb-true (length whole) longest_message t in omega (arith, more, size, le)) in
-    short_text mid reply.id
-    ∙ sym (ap (λ (b : Bool). if b then whole else message_text mid (transaction_reply_text (too_long reply.id))) not)
+too_long_is mid reply e = grind (arith, leb-false, by_long, length-message, refuted, leb-true, short_text)

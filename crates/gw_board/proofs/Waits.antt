@@ -1,5 +1,5 @@
 -- The keys of places that wait, as they are kept: one place more, and keys that are listed otherwise.
-use Rattle.std.proofs.Common.{nat_eq, ◌≡◌, ℕ, ◌+◌, ◌<◌, Bool, true, false, cond, ◌&&◌, not, bytes_eq, List, [], ◌∷◌, length, take, refl, sym, ap, subst, ◌∙◌, add-one, eqb-true, eq-eqb, slice_index_or}
+use Rattle.std.proofs.Common.{nat_eq, ◌≡◌, ℕ, ◌+◌, ◌<◌, Bool, true, false, cond, ◌&&◌, bytes_eq, List, [], ◌∷◌, length, take, refl, sym, ap, subst, ◌∙◌, add-one, eqb-true, eq-eqb, slice_index_or}
 use Rattle.std.specs.Prelude.{◌||◌}
 use Rattle.std.specs.List.{list_any}
 use Rattle.std.proofs.lemmas.Option.{slice_get_read}
@@ -86,11 +86,6 @@ module _ (old new : Waiting) (whole : new.is_whole ≡ old.is_whole) where
   number_more c e h (Term q) = ap (λ s. contains bytes_eq s q) e
   number_more c e h (Ctx n) = h n.0 ∙ or_cond (nat_eq c.0 n.0) (contains nat_eq old.contexts n.0) ∙ ap (λ b. b || contains nat_eq old.contexts n.0) (turned_number c.0 n.0)
   number_more c e h Whole = whole
-
--- it was there unless it was added
-pub was_there : (added b : Bool) → added ≡ not b → not added ≡ b
-was_there added true e = ap (λ x. not x) e
-was_there added false e = ap (λ x. not x) e
 
 -- ---- keys in order, one more
 

@@ -1,10 +1,11 @@
 -- The jobs of a wave are opened one after another, and closed one after another.
+use Rattle.std.proofs.lemmas.Grind.{common_steps}
 use Rattle.std.proofs.Common.{nat_eq, ◌≡◌, ℕ, zero, suc, Bool, true, false, cond, List, [], ◌∷◌, ◌++◌, map, Option, None, Some, Result, Ok, is_ok, refl, sym, ap, subst, ◌∙◌, arith, eqb-true, eq-eqb}
-use Rattle.std.specs.Prelude.{◌||◌, ◌&&◌, slice_get, slice_set, IsOk, IsSomeAnd, MatchOption}
+use Rattle.std.specs.Prelude.{◌||◌, slice_get, slice_set, IsOk, IsSomeAnd, MatchOption}
 use Rattle.std.specs.List.{All, AllZip, list_any, list_all}
 use Rattle.std.specs.Option.{option_to_list}
 use Rattle.std.proofs.lemmas.List.Elements.{All-nil, All-cons, All-head, All-tail, All-append}
-use Rattle.gw_base.proofs.Booleans.{neither, both as each_of}
+use Rattle.gw_base.proofs.Booleans.{neither}
 use Rattle.gw_base.specs.declared.fault.NoMemory.{NoMemory}
 use Rattle.gw_table.specs.Parts.{Parted}
 use Rattle.gw_board.specs.Boards.{Seen, Handed, HasOpen, Opens, core_of, requested_in, job_of, outcome_of, unchanged, with_result, unclosed}
@@ -40,21 +41,10 @@ module _ {X : Type 0} where
 
 count_last : (i : ℕ) (jobs : List Handed) (h : Handed) → count_at i (jobs ++ h ∷ []) ≡ cond (nat_eq i h.place) (suc (count_at i jobs)) (count_at i jobs)
 count_last i [] h = refl
-count_last i (g ∷ gs) h = by (nat_eq i g.place) (nat_eq i h.place) (count_last i gs h)
-  where
-    by : (a b : Bool) → count_at i (gs ++ h ∷ []) ≡ cond b (suc (count_at i gs)) (count_at i gs)
-        → cond a (suc (count_at i (gs ++ h ∷ []))) (count_at i (gs ++ h ∷ [])) ≡ cond b (suc (cond a (suc (count_at i gs)) (count_at i gs))) (cond a (suc (count_at i gs)) (count_at i gs))
-    by true true e = ap suc e
-    by true false e = ap suc e
-    by false true e = e
-    by false false e = e
+count_last i (g ∷ gs) h = grind (arith, count_last i gs h)
 
 apart : (i k : ℕ) → nat_eq i k ≡ false → nat_eq k i ≡ false
-apart i k f = other (nat_eq k i) refl
-  where
-    other : (c : Bool) → nat_eq k i ≡ c → nat_eq k i ≡ false
-    other false g = g
-    other true g = absurd (let clash : true ≡ false = sym (eq-eqb i k (sym (eqb-true k i g))) ∙ f in cc)
+apart i k f = grind arith
 
 -- a job at a place that none of these has
 module _ (P Q : Handed → Type 0) (i : ℕ) (on : (h : Handed) → nat_eq h.place i ≡ false → P h → Q h) where
@@ -127,8 +117,7 @@ module _ (b c : Seen) (i : ℕ) (h : Handed) (o : Opens b i h c) where
 -- the place of the job is that which was planned
 pub one_placed : (b c : Seen) (p : Planned) (h : Handed) → Opens b p.place h c → (jobs : List Handed) (later : List Planned)
     → map (λ (j : Handed). j.place) (jobs ++ h ∷ []) ++ map (λ (q : Planned). q.place) later ≡ map (λ (j : Handed). j.place) jobs ++ map (λ (q : Planned). q.place) (p ∷ later)
-one_placed b c p h o [] later = ap (λ n. n ∷ map (λ (q : Planned). q.place) later) (place_is b c p.place h o)
-one_placed b c p h o (j ∷ js) later = ap (λ l. j.place ∷ l) (one_placed b c p h o js later)
+one_placed b c p h o jobs later = grind (arith, common_steps)
 
 -- ---- a job is closed, either way: something that is not open stands at its place
 
@@ -184,11 +173,7 @@ last_first end b (g ∷ gs) h = ap (λ x. end x g) (last_first end b gs h)
 
 -- the last job is open
 pub last_open : (b : Seen) (front : List Handed) (h : Handed) → AreOpen b (front ++ h ∷ []) → HasOpen b h
-last_open b front h a = at front a.each
-  where
-    at : (l : List Handed) → All (HasOpen b) (l ++ h ∷ []) → HasOpen b h
-    at [] all = All-head (HasOpen b) h [] all
-    at (g ∷ gs) all = at gs (All-tail (HasOpen b) g (gs ++ h ∷ []) all)
+last_open b front h a = grind (arith, common_steps)
 
 module _ (b d : Seen) (front : List Handed) (h : Handed) (a : AreOpen b (front ++ h ∷ [])) where
   mine : HasOpen b h
@@ -231,11 +216,7 @@ each_shut (p ∷ ps) f = by (is_open p.standing) (f 0) (each_shut ps (λ i. f (s
     by false e later = later
 
 pub none_open : (b : Seen) → AreOpen b [] → NothingIsOpen (core_of b)
-none_open b a = each_shut b.places (λ i. by (is_open_at (slice_get b.places i)) (a.one i))
-  where
-    by : (x : Bool) → ◌≡◌ {A = ℕ} 0 (cond x 1 0) → x ≡ false
-    by true e = absurd (omega arith)
-    by false e = refl
+none_open b a = grind (arith, each_shut)
 
 shut_at : (places : List Place) (i : ℕ) → list_any (λ p. is_open p.standing) places ≡ false → is_open_at (slice_get places i) ≡ false
 shut_at [] i h = refl
@@ -287,16 +268,8 @@ module _ {A B : Type 0} (R : A → B → Type 0) where
 abbrev pub Reply : Type 0
 Reply = Result (Parted × Text) NoMemory
 
-both_hold : (a b : Bool) → a ≡ true → b ≡ true → (a && b) ≡ true
-both_hold true b e f = f
-both_hold false b e f = absurd cc
-
 all_last : (new : List Reply) (r : Reply) → list_all is_ok (new ++ r ∷ []) ≡ true → (list_all is_ok new ≡ true) × (is_ok r ≡ true)
-all_last [] r h = (refl, (each_of (is_ok r) true h).0)
-all_last (s ∷ ss) r h =
-    let parts = each_of (is_ok s) (list_all is_ok (ss ++ r ∷ [])) h in
-    let rest = all_last ss r parts.1 in
-    (both_hold (is_ok s) (list_all is_ok ss) parts.0 rest.0, rest.1)
+all_last new r h = grind (arith, common_steps)
 
 module _ (front : List Handed) (h : Handed) (old new : List Reply) (o : Option Reply) (answers : AreAnswers (front ++ h ∷ []) old) (all : list_all is_ok old ≡ true) (split : old ≡ new ++ option_to_list o) (none : o ≡ None → old ≡ []) where
   pub last_there : IsSomeAnd o (λ a. IsOk a)

@@ -31,15 +31,7 @@ loop-place-preserved c =
     }
 
 pub returns-clause-places : goal.returns-clause-places
-returns-clause-places c =
-    let start : List Place = map place_of c.args.board_entries.now.items in
-    c.loop-place.invariant.places
-    ∙ all_are_pending start c.loop-place.place
-    (let count : length start ≡ length c.args.board_entries.now.items = length-places c.args.board_entries.now.items in
-    let past = c.loop-place-test.false in
-    let end = c.len-place-end.ensures in
-    let own = c.args.board_entries.now.ok.0 in
-    omega arith)
+returns-clause-places c = grind (arith, all_are_pending, length-places)
 
 pub returns-clause-requested : goal.returns-clause-requested
 returns-clause-requested c = ap requested_in (returns-clause-places c) ∙ requested-pending (requested_in (map place_of c.args.board_entries.now.items))

@@ -1,6 +1,6 @@
 use Rattle.std.proofs.Common.{◌&&◌, Bool, true, false, not, List, is_some, refl, sym, ap, ◌≡◌, ◌∙◌}
 use Rattle.std.specs.Bool.{then_some}
-use Rattle.std.specs.Prelude.{◌||◌, IfSome}
+use Rattle.std.specs.Prelude.{◌||◌}
 use Rattle.gw_base.specs.declared.key.Key.{Key}
 use Rattle.gw_table.specs.Stored.{maps_of}
 use Rattle.gw_foot.specs.Meets.{meets}
@@ -18,10 +18,6 @@ use Rattle.gw_board.proofs.plan.join_waiting.Goals.{After-then_some}
 visible : (free : Bool) (keys : List Key) → is_some (then_some free keys) ≡ free
 visible true keys = refl
 visible false keys = refl
-
-if_visible : (P : List Key → Type 0) (free : Bool) (keys : List Key) → P keys → IfSome (then_some free keys) P
-if_visible P true keys h = h
-if_visible P false keys h = tt
 
 module _ (c : After-then_some) where
   abbrev mine : List Key

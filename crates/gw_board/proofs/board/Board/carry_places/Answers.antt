@@ -4,12 +4,12 @@ use Rattle.gw_table.specs.Maps.{Maps}
 use Rattle.gw_table.specs.declared.undo_log.Write.{Write}
 use Rattle.gw_table.specs.UndoLog.{keys_written, undone as taken}
 use Rattle.gw_table.specs.Parts.{Parted, start_of}
-use Rattle.gw_table.specs.Stored.{Stored, maps_of, names_entry, AreReady, KeepReady, NoOtherReady, NoneIsOut}
+use Rattle.gw_table.specs.Stored.{Stored, maps_of, names_entry, AreReady, KeepReady, NoOtherReady}
 use Rattle.gw_board.specs.BoardView.{value_of, IsOnTheWay, IsKeptIn, NoneIsSpare}
 use Rattle.gw_board.specs.Boards.{Seen, requested_in, begun_board, core_of, is_pending_at, AllClosed, unclosed}
 use Rattle.gw_board.specs.Carried.{BurstRequest}
 use Rattle.gw_board.specs.Core.{Place, pending}
-use Rattle.gw_board.specs.Candidates.{AreCandidates, AreCandidatesBut}
+use Rattle.gw_board.specs.Candidates.{AreCandidates}
 use Rattle.gw_board.specs.declared.board_entry.BoardEntry.{BoardEntry}
 use Rattle.gw_board.specs.Fitting.{Each}
 use Rattle.gw_board.specs.GoingOn.{MayGoOn}
@@ -40,10 +40,7 @@ started : (b : Seen) → IsOnTheWay b → NothingIsOpen (core_of b) → (maps : 
 started b w none maps e = subst (λ (m : Maps). MayGoOn b.profile b.start m b.places) (sym e) (record { undo_log = b.undo_log; way = w; none = none })
 
 pub of_tables-draft-requires : goal.of_tables-draft-requires
-of_tables-draft-requires g c =
-    let b : Seen = value_of c.self.inside in
-    subst NoneIsOut (sym c.replace-tables.ensures.value)
-    (none_out b c.self.inside.tables c.self.invariant.kept (none_here b c.args.self.now c.self.view_is c.requires.«open»))
+of_tables-draft-requires g c = grind (arith, none_out, none_here)
 
 pub carry_each-requires-clause-goes_on : goal.carry_each-requires-clause-goes_on
 carry_each-requires-clause-goes_on g c κs within =
@@ -117,12 +114,7 @@ returns-in_default-clause-err g c = is_begun g c ∙ ap (λ (x : Seen). begun_bo
 -- ---- with all replies
 
 pub release_all-requires-clause-one : goal.release_all-requires-clause-one
-release_all-requires-clause-one g c one =
-    let b : Seen = value_of c.self.inside in
-    let pends = ap (λ (x : Seen). is_pending_at (slice_get x.places c.args.places.start)) c.self.view_is ∙ c.requires.pends in
-    subst (λ (l : List BoardEntry). AreCandidatesBut c.args.places.start (map place_of l) c.self.inside.candidates) (sym c.deref.ensures.value)
-    (candidates_beside b.places (map place_of c.carry_each.new.board_entries.items) c.args.places.start c.args.places.end c.self.inside.candidates
-    one pends c.carry_each.ensures.requested c.in-Ok.ensures.beside c.in-Ok.ensures.closed c.self.invariant.candidates)
+release_all-requires-clause-one g c one = grind (arith, candidates_beside)
 
 pub push_reserved-requires : goal.push_reserved-requires
 push_reserved-requires g c =

@@ -23,7 +23,4 @@ loop-job-preserved c =
     }
 
 pub returns-clause-none : goal.returns-clause-none
-returns-clause-none c =
-    let count = c.loop-job.jobs.ok.0 in
-    let zero = (nothing_left c.pop.result _ _ c.pop.ensures.cases c.in_default.not-Some).0 in
-    none_open c.loop-job.self (subst (λ (l : List Handed). AreOpen c.loop-job.self l) (nil_of c.loop-job.jobs.items (omega arith)) c.loop-job.invariant.open_still)
+returns-clause-none c = grind (arith, nothing_left, none_open, nil_of)

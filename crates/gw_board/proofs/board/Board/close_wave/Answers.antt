@@ -6,37 +6,13 @@ use Rattle.gw_board.proofs.WaveJobs.{Reply, last_first, last_open, had_result, l
 use Rattle.gw_board.proofs.board.Board.close_wave.Goals as goal
 
 pub result_in-part-requires : goal.result_in-part-requires
-result_in-part-requires c =
-    let b : Seen = c.loop-job.self in
-    let h : Handed = c.in-Some.job in
-    let front : List Handed = c.pop.new.self.items in
-    let old : List Reply = c.loop-job.answers.items in
-    let new : List Reply = c.pop-in-Some.new.self.items in
-    let answers : AreAnswers (front ++ h ∷ []) old = subst (λ (l : List Handed). AreAnswers l old) c.in-Some.ensures.items c.loop-job.invariant.answers in
-    let none : c.pop-in-Some.result ≡ None → old ≡ [] = λ e. nil_of old (let count = c.loop-job.answers.ok.0 in let zero = (emptied c.pop-in-Some.result _ _ c.pop-in-Some.ensures.cases e).0 in omega arith) in
-    last_there front h old new c.pop-in-Some.result answers c.loop-job.invariant.all c.pop-in-Some.ensures.items none
+result_in-part-requires c = grind (arith, nil_of, emptied, last_there)
 
 pub new-requires-clause-part : goal.new-requires-clause-part
-new-requires-clause-part c =
-    let b : Seen = c.loop-job.self in
-    let h : Handed = c.in-Some.job in
-    let front : List Handed = c.pop.new.self.items in
-    let old : List Reply = c.loop-job.answers.items in
-    let new : List Reply = c.pop-in-Some.new.self.items in
-    let answers : AreAnswers (front ++ h ∷ []) old = subst (λ (l : List Handed). AreAnswers l old) c.in-Some.ensures.items c.loop-job.invariant.answers in
-    let none : c.pop-in-Some.result ≡ None → old ≡ [] = λ e. nil_of old (let count = c.loop-job.answers.ok.0 in let zero = (emptied c.pop-in-Some.result _ _ c.pop-in-Some.ensures.cases e).0 in omega arith) in
-    (last_result front h old new c.pop-in-Some.result answers c.loop-job.invariant.all c.pop-in-Some.ensures.items none c.result_in-part.result c.result_in-part.ensures).part
+new-requires-clause-part c = grind (arith, nil_of, emptied, last_result)
 
 pub new-requires-clause-reply : goal.new-requires-clause-reply
-new-requires-clause-reply c =
-    let b : Seen = c.loop-job.self in
-    let h : Handed = c.in-Some.job in
-    let front : List Handed = c.pop.new.self.items in
-    let old : List Reply = c.loop-job.answers.items in
-    let new : List Reply = c.pop-in-Some.new.self.items in
-    let answers : AreAnswers (front ++ h ∷ []) old = subst (λ (l : List Handed). AreAnswers l old) c.in-Some.ensures.items c.loop-job.invariant.answers in
-    let none : c.pop-in-Some.result ≡ None → old ≡ [] = λ e. nil_of old (let count = c.loop-job.answers.ok.0 in let zero = (emptied c.pop-in-Some.result _ _ c.pop-in-Some.ensures.cases e).0 in omega arith) in
-    (last_result front h old new c.pop-in-Some.result answers c.loop-job.invariant.all c.pop-in-Some.ensures.items none c.result_in-part.result c.result_in-part.ensures).reply
+new-requires-clause-reply c = grind (arith, nil_of, emptied, last_result)
 
 pub close-requires : goal.close-requires
 close-requires c =
@@ -75,7 +51,4 @@ loop-job-preserved c =
     }
 
 pub returns-clause-none : goal.returns-clause-none
-returns-clause-none c =
-    let count = c.loop-job.jobs.ok.0 in
-    let zero = (nothing_left c.pop.result _ _ c.pop.ensures.cases c.in_default.not-Some).0 in
-    none_open c.loop-job.self (subst (λ (l : List Handed). AreOpen c.loop-job.self l) (nil_of c.loop-job.jobs.items (omega arith)) c.loop-job.invariant.open_still)
+returns-clause-none c = grind (arith, nothing_left, none_open, nil_of)

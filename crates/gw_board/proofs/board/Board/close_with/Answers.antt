@@ -31,10 +31,7 @@ put_back-requires c =
     (open_out b c.self.invariant.on_the_way c.args.job (here b c.args.self.now c.args.job c.self.view_is c.requires.«open») c.self.inside.tables c.self.invariant.kept)
 
 pub set_stage-requires : goal.set_stage-requires
-set_stage-requires c =
-    let b : Seen = value_of c.self.inside in
-    seat_inside c.self.inside.board_entries.items c.job.inside.place (open_with c.args.job.requested (job_of c.args.job))
-    (stands_at b c.args.job c.job.inside.place (ap (λ (h : Handed). h.place) c.job.view_is) (here b c.args.self.now c.args.job c.self.view_is c.requires.«open»))
+set_stage-requires c = grind (arith, seat_inside, stands_at, here)
 
 pub push_reserved-requires : goal.push_reserved-requires
 push_reserved-requires c =

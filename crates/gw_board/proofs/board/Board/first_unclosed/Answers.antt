@@ -1,6 +1,5 @@
-use Rattle.std.proofs.Common.{◌≡◌, ◌+◌, ℕ, not, map, take, Some, sym, ap, subst, add-one, arith, ◌∙◌}
+use Rattle.std.proofs.Common.{◌≡◌, ◌+◌, ℕ, take, Some, sym, subst, add-one, arith, ◌∙◌}
 use Rattle.std.specs.Prelude.{slice_get}
-use Rattle.gw_board.specs.Alone.{is_unclosed_at}
 use Rattle.gw_board.specs.BoardView.{value_of}
 use Rattle.gw_board.specs.Boards.{Seen, AllClosed}
 use Rattle.gw_board.specs.BoardEntries.{place_of}
@@ -9,15 +8,7 @@ use Rattle.gw_board.proofs.BoardEntryFacts.{seat_place}
 use Rattle.gw_board.proofs.board.Board.first_unclosed.Goals as goal
 
 pub returns-then-not-is_closed-clause-pends : goal.returns-then-not-is_closed-clause-pends
-returns-then-not-is_closed-clause-pends c = λ none.
-    let i : ℕ = c.loop-place.place in
-    let below = c.loop-place-test.true in
-    let count = c.len-place-end.ensures in
-    let here : slice_get (map place_of c.self.inside.board_entries.items) i ≡ Some (place_of c.index.result.now) = seat_place c.self.inside.board_entries.items i c.index.result.now (omega arith) c.index.ensures in
-    unclosed_pends c.args.self.now.places i none
-    (ap (λ (x : Seen). is_unclosed_at (slice_get x.places i)) (sym c.self.view_is)
-    ∙ ap is_unclosed_at here
-    ∙ ap (λ b. not b) (sym c.is_closed.ensures ∙ c.if-not-is_closed.true))
+returns-then-not-is_closed-clause-pends c = grind (arith, seat_place, unclosed_pends)
 
 pub loop-place-preserved : goal.loop-place-preserved
 loop-place-preserved c =

@@ -11,13 +11,7 @@ use Rattle.gw_board.proofs.board.Board.new.Goals as goal
 use Rattle.gw_board.proofs.board.Board.new.Goals.{After-new}
 
 is_begun : (c : After-new) → record { profile = c.args.profile; start = c.of-start.result.value; maps = maps_of c.args.tables; places = map place_of c.in-Ok.board_entries.items; undo_log = c.in-Ok-with_capacity.undo_log.items } ≡ begun_board c.args.profile c.args.requested.now c.args.tables
-is_begun c = λ i. record {
-  profile = c.args.profile;
-  start = c.of-start.ensures i;
-  maps = maps_of c.args.tables;
-  places = c.in-Ok.ensures i;
-  undo_log = c.in-Ok-with_capacity.ensures.items i;
-}
+is_begun c = grind arith
 
 way : (c : After-new) → IsOnTheWay (begun_board c.args.profile c.args.requested.now c.args.tables)
 way c = begun_way c.args.profile c.args.requested.now c.args.tables c.requires.whole c.requires.unused

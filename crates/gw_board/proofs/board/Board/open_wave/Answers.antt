@@ -1,4 +1,4 @@
-use Rattle.std.proofs.Common.{◌≡◌, map, length, List, [], ◌∷◌, ◌++◌, refl, sym, ap, subst, ◌∙◌, arith}
+use Rattle.std.proofs.Common.{◌≡◌, map, length, List, [], ◌∷◌, ◌++◌, sym, ap, subst, ◌∙◌, arith}
 use Rattle.gw_board.specs.Boards.{Seen, Handed, Opens}
 use Rattle.gw_board.specs.OpenJobs.{AreOpen}
 use Rattle.gw_board.specs.Planned.{MayOpenInTurn}
@@ -7,22 +7,7 @@ use Rattle.gw_board.proofs.WaveJobs.{no_jobs, one_opened, one_placed, same_opene
 use Rattle.gw_board.proofs.board.Board.open_wave.Goals as goal
 
 pub loop-planned-init : goal.loop-planned-init
-loop-planned-init c =
-    let old : Seen = c.args.self.now in
-    let none : length c.in_ok-jobs.jobs.items ≡ 0 = ap length c.in_ok-jobs.ensures.items in
-    let count = c.in_ok-jobs.jobs.ok.0 in
-    let rest : length c.into_iter-planned-iterator.result.rest.items ≡ length c.args.wave.items = ap length c.into_iter-planned-iterator.ensures.into_iter_gives.0 in
-    let places = c.args.wave.ok.0 in
-    let room = c.in_ok-jobs.ensures.capacity in
-    let requested = c.len.ensures in
-    record {
-      open_still = subst (λ (l : List Handed). AreOpen old l) (sym c.in_ok-jobs.ensures.items) (no_jobs old c.requires.none);
-      turn = subst (λ (l : List Planned). MayOpenInTurn old l) (sym c.into_iter-planned-iterator.ensures.into_iter_gives.0) c.requires.in_turn;
-      places = λ j. map (λ (h : Handed). h.place) (c.in_ok-jobs.ensures.items j) ++ map (λ (p : Planned). p.place) (c.into_iter-planned-iterator.ensures.into_iter_gives.0 j);
-      room = omega arith;
-      left = refl;
-      same = same_itself old;
-    }
+loop-planned-init c = grind (arith, no_jobs, same_itself)
 
 pub loop-planned-preserved : goal.loop-planned-preserved
 loop-planned-preserved c =

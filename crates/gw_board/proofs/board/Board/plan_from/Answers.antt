@@ -1,12 +1,11 @@
-use Rattle.std.proofs.Common.{◌≡◌, ◌+◌, ◌-◌, ◌<◌, ◌≤◌, ℕ, suc, cond, false, not, List, [], ◌∷◌, ◌++◌, filter, map, length, take, Some, is_some, sym, ap, subst, ◌∙◌, add-one, arith}
+use Rattle.std.proofs.Common.{◌≡◌, ◌+◌, ◌-◌, ◌<◌, ◌≤◌, ℕ, suc, cond, false, not, List, [], ◌∷◌, ◌++◌, filter, map, length, Some, is_some, sym, ap, subst, ◌∙◌, add-one, arith}
 use Rattle.std.specs.List.{range_with_len}
 use Rattle.std.specs.Prelude.{slice_get}
 use Rattle.gw_board.specs.BoardView.{value_of}
 use Rattle.gw_board.specs.Boards.{Seen, core_of}
 use Rattle.gw_board.specs.Carried.{keys_of}
-use Rattle.gw_board.specs.Core.{Core, Place}
+use Rattle.gw_board.specs.Core.{Place}
 use Rattle.gw_board.specs.Fitting.{Each}
-use Rattle.gw_board.specs.Candidates.{AreCandidates}
 use Rattle.gw_board.specs.Named.{IsNoneOfWave}
 use Rattle.gw_board.specs.Planned.{IsPlan, IsReckoned, planned_with}
 use Rattle.gw_board.specs.BoardEntries.{place_of}
@@ -20,18 +19,8 @@ use Rattle.gw_board.proofs.Planning.{free_at, AreThose, wave_more, those_more, f
 use Rattle.gw_board.proofs.BoardEntryFacts.{length-places, seat_place}
 use Rattle.gw_board.proofs.board.Board.plan_from.Goals as goal
 
-pub end-at-end-requires : goal.end-at-end-requires
-end-at-end-requires c = subst (λ (l : List BoardEntry). AreCandidates (map place_of l) c.self.inside.candidates) (sym c.deref.ensures.value) c.self.invariant.candidates
-
 pub loop-at-init : goal.loop-at-init
-loop-at-init c =
-    let s : Core = core_of c.args.self.now in
-    record {
-      places = ap (map (λ (p : Planned). p.place)) c.new-planned.ensures.items ∙ sym (none_so_far s c.args.from c.requires.closed);
-      keys = subst (Each (IsReckoned c.args.self.now)) (sym c.new-planned.ensures.items) tt;
-      waiting = λ k. c.new-waiting.ensures k ∙ sym (closed_unmet (take c.args.from s.places) c.requires.closed s.maps k);
-      within = c.requires.inside;
-    }
+loop-at-init c = grind (arith, none_so_far, closed_unmet)
 
 pub loop-at-preserved : goal.loop-at-preserved
 loop-at-preserved c =
