@@ -32,8 +32,7 @@ abbrev pub AnySlot : ℕ → Type 0
 AnySlot s = Unit {0}
 
 other : (t : ℕ) (slot : Option ℕ) → IsOther slot t → MayMake (λ s. slot_name s ≢ slot_name t) slot
-other t None o = tt
-other t (Some s) o = o
+other t slot o = grind arith
 
 -- a command makes none but in its own
 pub makes_none : (rules : Rules) (at : At) (slot : Option ℕ) (c : Command) (m : Maps) → IsUnused slot m → MakesNone slot m (command rules at slot c m).maps
@@ -41,9 +40,7 @@ makes_none rules at slot c m u t o none =
     kept_command rules (λ _. true) (λ s. slot_name s ≢ slot_name t) (absent_is_kept rules (slot_name t)) at slot c m (λ _. refl) u (other t slot o) none
 
 pub free_slot : (m : Maps) (slots : List (Option ℕ)) → AreFreeSlots m slots → IsUnused (first_owned slots) m
-free_slot m [] f = tt
-free_slot m (None ∷ os) f = tt
-free_slot m (Some s ∷ os) f = f.no_terminations 0 s (omega arith)
+free_slot m slots f = grind arith
 
 pub kind_first : {X : Type 0} (S : X → Type 0) (slots : List (Option X)) → All S (owned slots) → IsOfKind S (first_owned slots)
 kind_first S [] f = tt
@@ -76,13 +73,7 @@ free_later m (None ∷ os) f = f
 free_later m (Some s ∷ os) f = behind_first m s os f
 
 pub free_on : (m n : Maps) (slot : Option ℕ) (slots : List (Option ℕ)) → All (IsOther slot) (owned slots) → MakesNone slot m n → AreFreeSlots m slots → AreFreeSlots n slots
-free_on m n slot slots other none f = record {
-  numbers_apart = f.numbers_apart;
-  no_contexts = λ k d h. absurd (omega arith);
-  slots_apart = f.slots_apart;
-  no_terminations = λ k d h. none (get_or (owned slots) k d) (other k d h) (f.no_terminations k d h);
-  slots_small = f.slots_small;
-}
+free_on m n slot slots other none f = grind arith
 
 -- the slots behind the one that a command owns stay free
 pub free_after : (m n : Maps) (slots : List (Option ℕ)) → MakesNone (first_owned slots) m n → AreFreeSlots m slots → AreFreeSlots n (later_owned slots)

@@ -1,4 +1,5 @@
 -- Keys that a part holds, and goes on holding while commands change it.
+use Rattle.std.proofs.lemmas.Grind.{common_steps}
 use Rattle.std.proofs.Common.{nat_eq, ◌≡◌, ℕ, zero, suc, ◌<◌, Bool, true, false, List, [], ◌∷◌, ◌++◌, length, get_or, map, Option, None, Some, is_some, refl, sym, ap, subst, ◌∙◌, arith}
 use Rattle.std.specs.Prelude.{◌||◌, All}
 use Rattle.std.specs.List.{flat_map, list_any}
@@ -22,9 +23,8 @@ use Rattle.gw_table.specs.Parts.{PartKeys, IsPart, holds, Holds}
 use Rattle.gw_table.proofs.Growth.{Grows}
 use Rattle.gw_refusal.specs.declared.at.At.{At}
 use Rattle.gw_refusal.specs.declared.at.At.TheVariants.{Null, Live, Unmade, Each}
-use Rattle.gw_refusal.specs.Requested.{is_add}
 use Rattle.gw_refusal.specs.Places.{made}
-use Rattle.gw_cmd.specs.Keys.{every_key, is_for_all, keys_if, action_keys, place_key, name_keys, slot_key, member_keys, term_keys, command_keys}
+use Rattle.gw_cmd.specs.Keys.{every_key, is_for_all, keys_if, action_keys, place_key, name_keys, member_keys, term_keys, command_keys}
 use Rattle.gw_cmd.proofs.Locality.{entered_name}
 use Rattle.gw_cmd.proofs.Ready.{same_any}
 use Rattle.gw_reserve.specs.Owned.{OwnedAction}
@@ -229,26 +229,9 @@ module _ (keys : PartKeys) where
 
 pub made_held : (keys : PartKeys) (at : At) (slot : Option ℕ) (c : Command) (m : Maps) → Holds keys (command_keys at slot c m) → Holds keys (command_keys (made at) slot c m)
 unfolding command_keys
-made_held keys Null slot c m h = h
-made_held keys (Live n) slot c m h = h
-made_held keys (Unmade n) slot c m h = h
-made_held keys (Each n) slot c m h = h
+made_held keys at slot c m h = grind arith
 
 -- without the slot there are fewer
 pub less_held : (keys : PartKeys) (at : At) (slot : Option ℕ) (c : Command) (m : Maps) → Holds keys (command_keys at slot c m) → Holds keys (command_keys at None c m)
 unfolding command_keys
-less_held keys at slot c m h =
-    let front : List Key = keys_if (is_for_all at c) (every_key m) ++ action_keys at in
-    both_held keys front (term_keys at None c m c.term) (left_held keys front (term_keys at slot c m c.term) h) (by c.term (right_held keys front (term_keys at slot c m c.term) h))
-  where
-    no_slot : (b : Bool) → Holds keys (keys_if b (slot_key None))
-    no_slot true = none_held keys
-    no_slot false = none_held keys
-
-    by : (r : TermRef) → Holds keys (term_keys at slot c m r) → Holds keys (term_keys at None c m r)
-    by (term_ref.Name t) x = x
-    by term_ref.Choose x = no_slot (is_add c.verb)
-    by term_ref.All x = x
-    by (term_ref.Under prefix) x = x
-    by term_ref.Root x = x
-    by (term_ref.Other text) x = x
+less_held keys at slot c m h = grind (arith, common_steps)

@@ -1,26 +1,22 @@
 -- The frame of a reply, and its limit.
-use Rattle.std.proofs.Common.{◌≡◌, ℕ, ◌+◌, ◌-◌, ◌<◌, nat_le, Bool, true, false, List, [], ◌∷◌, ◌++◌, length, map, decimal, Ok, arith, length-append, refl, ap, sym}
+use Rattle.std.proofs.Common.{◌≡◌, ℕ, ◌+◌, ◌-◌, nat_le, Bool, true, false, List, [], ◌∷◌, ◌++◌, length, map, decimal, Ok, arith, length-append, refl, ap, sym}
 use Rattle.std.specs.Prelude.{if◌then◌else◌}
 use Rattle.std.proofs.lemmas.Bool.{leb-true, leb-false, le-leb}
 use Rattle.gw_base.specs.declared.ids.TxId.{TxId}
-use Rattle.gw_reply.specs.declared.writer.ReplyWriter.{ReplyWriter}
 use Rattle.gw_reply.specs.declared.writer.ReplyWriter.TheVariants as writer
 use Rattle.gw_reply.specs.Writers.{written_behind}
 use Rattle.gw_reply.proofs.Framed.{without_comma}
-use Rattle.gw_reply.proofs.TextLengths.{length-in_braces}
 use Rattle.gw_reply.proofs.Writers.{not_le}
-use Rattle.gw_reply.specs.Lists.{comma_separated, in_braces, later}
+use Rattle.gw_reply.specs.Lists.{comma_separated, later}
 use Rattle.gw_reply.specs.declared.reply.ActionReply.{ActionReply}
 use Rattle.gw_reply.specs.Replies.{action_reply_text, transaction_reply_text}
 use Rattle.gw_tx.specs.declared.limited_text.LimitedText.{LimitedText}
 use Rattle.gw_tx.specs.declared.limited_text.LimitedText.TheVariants.{Whole, TooLong}
-use Rattle.gw_tx.specs.LimitedText.{limited_text_of, within, IsLimited}
+use Rattle.gw_tx.specs.LimitedText.{limited_text_of, within}
 
 -- the text of a reply is eight bytes, its number, and its actions
 length-reply : (id : TxId) (replies : List ActionReply) → length (transaction_reply_text (record { id = id; result = Ok replies })) ≡ length (decimal id.0) + 8 + length (comma_separated (map action_reply_text replies))
-length-reply id replies =
-    let inner : List ℕ = comma_separated (map action_reply_text replies) in
-    omega (arith, length-append (decimal id.0) (in_braces inner), length-in_braces inner)
+length-reply id replies = grind (arith, length-append)
 
 -- they have a comma less between two of them than before each
 length-joined : (r : ActionReply) (rs : List ActionReply) → length (comma_separated (map action_reply_text (r ∷ rs))) + 1 ≡ length (later action_reply_text (r ∷ rs))
@@ -30,16 +26,11 @@ length-joined r rs = let all = ap (λ (l : List ℕ). length l) (without_comma a
 fits_both : (replies : List ActionReply) (left : ℕ) (b : Bool) → nat_le (length (later action_reply_text replies)) (left + 1) ≡ b → nat_le (length (comma_separated (map action_reply_text replies))) left ≡ b
 fits_both [] left true e = le-leb 0 left (omega arith)
 fits_both [] left false e = let more = leb-false 0 (left + 1) e in absurd (omega (arith, more))
-fits_both (r ∷ rs) left true e =
-    let le = leb-true (length (later action_reply_text (r ∷ rs))) (left + 1) e in
-    le-leb (length (comma_separated (map action_reply_text (r ∷ rs)))) left (omega (arith, le, length-joined r rs))
-fits_both (r ∷ rs) left false e =
-    let more = leb-false (length (later action_reply_text (r ∷ rs))) (left + 1) e in
-    not_le (length (comma_separated (map action_reply_text (r ∷ rs)))) left (omega (arith, more, length-joined r rs))
+fits_both (r ∷ rs) left true e = grind (arith, leb-true, le-leb, length-joined)
+fits_both (r ∷ rs) left false e = grind (arith, leb-false, not_le, length-joined)
 
 fits_frame : (all frame inner left limit : ℕ) (b : Bool) → all ≡ frame + inner → left + frame ≡ limit → nat_le inner left ≡ b → nat_le all limit ≡ b
-fits_frame all frame inner left limit true sum room e = let le = leb-true inner left e in le-leb all limit (omega (arith, sum, room, le))
-fits_frame all frame inner left limit false sum room e = let more = leb-false inner left e in not_le all limit (omega (arith, sum, room, more))
+fits_frame all frame inner left limit b sum room e = grind arith
 
 pub framed : (id : TxId) (replies : List ActionReply) (left limit : ℕ) → left + (length (decimal id.0) + 8) ≡ limit
     → limited_text_of (written_behind action_reply_text (writer.Within [] (left + 1)) replies) ≡ within limit (record { id = id; result = Ok replies })
@@ -51,19 +42,3 @@ framed id replies left limit room = by (nat_le (length (later action_reply_text 
     by : (b : Bool) → nat_le (length (later action_reply_text replies)) (left + 1) ≡ b → limited_text_of (if b then writer.Within ([] ++ later action_reply_text replies) (left + 1 - length (later action_reply_text replies)) else writer.TooLong) ≡ within limit (record { id = id; result = Ok replies })
     by true e = sym (ap (λ (b : Bool). let t : LimitedText = if b then Whole (later action_reply_text replies) else TooLong in t) (fits true e))
     by false e = sym (ap (λ (b : Bool). let t : LimitedText = if b then Whole (later action_reply_text replies) else TooLong in t) (fits false e))
-
--- a limit below the frame
-pub no_frame : (id : TxId) (replies : List ActionReply) (limit : ℕ) → limit < length (decimal id.0) + 8 → TooLong ≡ within limit (record { id = id; result = Ok replies })
-no_frame id replies limit less =
-    let all = length-reply id replies in
-    sym (ap (λ (b : Bool). let t : LimitedText = if b then Whole (later action_reply_text replies) else TooLong in t) (not_le (length (transaction_reply_text (record { id = id; result = Ok replies }))) limit (omega (arith, all, less))))
-
--- a limit stays
-pub still_limited : (w : ReplyWriter ActionReply) (more : List ActionReply) → IsLimited w → IsLimited (written_behind action_reply_text w more)
-still_limited (writer.All front) more l = l
-still_limited (writer.Within front room) more l = by (nat_le (length (later action_reply_text more)) room)
-  where
-    by : (b : Bool) → IsLimited (if b then writer.Within (front ++ later action_reply_text more) (room - length (later action_reply_text more)) else writer.TooLong)
-    by true = tt
-    by false = tt
-still_limited writer.TooLong more l = tt

@@ -2,15 +2,13 @@
 use Rattle.std.proofs.Common.{ℕ, Bool, true, false, List, [], ◌∷◌, sym, subst, arith}
 use Rattle.std.specs.List.{All}
 use Rattle.std.proofs.lemmas.List.Elements.{All-nil, All-cons}
-use Rattle.gw_base.specs.Wildcards.{IsTermText}
 use Rattle.gw_base.specs.declared.term_ref.TermRef.{TermRef}
-use Rattle.gw_base.specs.declared.term_ref.TermRef.TheVariants.{Root, All as Every, Choose, Under, Name, Other}
 use Rattle.gw_text.specs.Forms.{Separated, OptionalBraced}
 use Rattle.gw_desc.specs.Grammar.{SpellsDescriptor}
 use Rattle.gw_desc.specs.KeptTexts.{HasKeptTexts}
 use Rattle.gw_desc.specs.declared.descriptor.Descriptor.{Descriptor}
 use Rattle.gw_desc.proofs.KeptForms.{descriptor_kept}
-use Rattle.gw_msg.specs.Grammar.{SpellsTerm, has_group, SpellsDetailsOf, SpellsCommand, SpellsTriple, SpellsContextProperty, SpellsContents, SpellsAction, SpellsRequest}
+use Rattle.gw_msg.specs.Grammar.{SpellsTerm, SpellsDetailsOf, SpellsCommand, SpellsTriple, SpellsContextProperty, SpellsContents, SpellsAction, SpellsRequest}
 use Rattle.gw_msg.specs.declared.message.ContextProp.{ContextProp}
 use Rattle.gw_msg.specs.declared.message.ContextProp.TheVariants.{Priority, Emergency, Topology, ContextAudit}
 use Rattle.gw_msg.specs.declared.message.Triple.{Triple}
@@ -27,12 +25,7 @@ separated Form P each (x ∷ []) text h = All-cons P x [] (each x text h) (All-n
 separated Form P each (x ∷ (y ∷ ys)) text h = All-cons P x (y ∷ ys) (each x h.front h.first) (separated Form P each (y ∷ ys) h.second.back h.second.second)
 
 term_asked : (t : TermRef) (text : List ℕ) → SpellsTerm t text → HasForm t
-term_asked Root text h = tt
-term_asked Every text h = tt
-term_asked Choose text h = tt
-term_asked (Under prefix) text h = h.1.name
-term_asked (Name name) text h = subst IsTermText (sym h.1.0) h.0
-term_asked (Other pattern) text h = subst IsTermText (sym h.1.0) h.0
+term_asked t text h = grind arith
 
 optional_asked : (ds : List Descriptor) (text : List ℕ) → OptionalBraced SpellsDescriptor ds text → All HasKeptTexts ds
 optional_asked [] text h = All-nil HasKeptTexts
@@ -43,9 +36,7 @@ details_asked true ds text h = subst (All HasKeptTexts) (sym h.0) (All-nil HasKe
 details_asked false ds text h = optional_asked ds text h
 
 command_asked : (c : Command) (text : List ℕ) → SpellsCommand c text → IsRequested c
-command_asked c text h =
-    let named = h.words.second.second.second.second in
-    record { term = term_asked c.term named.front named.first; descriptors = details_asked (has_group c.verb) c.descriptors named.back named.second }
+command_asked c text h = grind (arith, details_asked)
 
 triple_asked : (t : Triple) (text : List ℕ) → SpellsTriple t text → HasForms t
 triple_asked t text h = let second = h.second.second in (term_asked t.a h.front h.first, term_asked t.b second.front second.first)
@@ -64,10 +55,7 @@ contents_asked (p ∷ ps) (c ∷ cs) text h =
     (separated SpellsContextProperty IsRequestedProperty property_asked (p ∷ ps) h.front h.first, separated SpellsCommand IsRequested command_asked (c ∷ cs) h.second.back more)
 
 action_asked : (a : Action) (text : List ℕ) → SpellsAction a text → AreRequested a
-action_asked a text h =
-    let contents = h.second.second.second.second in
-    let both = contents_asked a.props a.commands contents.front contents.first in
-    record { props = both.0; commands = both.1 }
+action_asked a text h = grind (arith, contents_asked)
 
 pub request_asked : (r : Request) (text : List ℕ) → SpellsRequest r text → IsReadRequest r
 request_asked r text h =

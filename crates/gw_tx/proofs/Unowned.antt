@@ -92,14 +92,7 @@ any_in (p ∷ ps) at = (tt, any_in ps at)
 
 pub any_of : (actions : List OwnedAction) → AllOks Any actions
 any_of [] = tt
-any_of (a ∷ more) = (by a.sent.ctx a.number, any_of more)
-  where
-    by : (sent : CtxRef) (number : Option CtxNum) → OksIn Any a.commands sent number
-    by ref.Null number = any_in a.commands Null
-    by (ref.Num n) number = any_in a.commands (Live n)
-    by ref.Choose None = tt
-    by ref.Choose (Some n) = any_in a.commands (Unmade n)
-    by ref.All number = λ n. any_in a.commands (Each n)
+any_of (a ∷ more) = grind (arith, any_of more, any_in)
 
 pub transaction_whole : (rules : Rules) (r : Request) (ids : Ids) (m : Maps) → AreFreeSlots m ids.slots → AreWellFormed rules.members m → AreWellFormed rules.members (transaction rules r ids m).maps
 transaction_whole rules r ids m u w = kept_request rules (commands_keep_whole rules) r ids m (any_of (with_ids r ids)) u (λ k d h. tt) w

@@ -1,4 +1,4 @@
-use Rattle.std.proofs.Common.{◌≡◌, ℕ, List, ◌∷◌, ◌+◌, drop, length, Option, refl, sym, ap, subst, ◌∙◌}
+use Rattle.std.proofs.Common.{◌≡◌, ℕ, List, ◌∷◌, ◌+◌, drop, length, Option, sym, ap, subst, ◌∙◌}
 use Rattle.std.proofs.Math.ListN.{drop_of_length-le}
 use Rattle.gw_base.specs.declared.ids.CtxNum.{CtxNum}
 use Rattle.gw_msg.specs.declared.message.Action.{Action}
@@ -17,20 +17,9 @@ use Rattle.gw_tx.proofs.Facts.{commands_keep_part}
 use Rattle.gw_tx.proofs.FreeSlots.{AnySlot}
 use Rattle.gw_tx.proofs.HeldKeys.{left_held, right_held}
 use Rattle.gw_tx.proofs.Kept.{With, kept_action}
-use Rattle.gw_tx.proofs.Parts.{starts, listed_in, covers_action}
-use Rattle.gw_tx.proofs.Steps.{IsSoFar, none_yet, none_left, one_more, the_last}
+use Rattle.gw_tx.proofs.Parts.{listed_in, covers_action}
+use Rattle.gw_tx.proofs.Steps.{IsSoFar, none_left, one_more, the_last}
 use Rattle.gw_tx.proofs.actions.actions.Goals as goal
-
-pub loop-one-init : goal.loop-one-init
-loop-one-init c =
-    let a = c.args in
-    let all : List OwnedAction = paired_actions a.numbers.now a.slots.now a.sent.now in
-    record {
-      replies = none_yet (action a.rules.now) action_reply_text a.writer tt all a.draft.now.maps;
-      held = c.requires.covered.held;
-      kept = starts a.draft.now a.slots.now (footprint_of all a.draft.now.maps) c.requires.covered c.requires.unused;
-      keys = refl;
-    }
 
 pub action-requires-clause-covered : goal.action-requires-clause-covered
 action-requires-clause-covered c =

@@ -2,7 +2,7 @@ use Rattle.std.proofs.Common.{◌≡◌, ℕ, ◌<◌, List, [], ◌+◌, length
 use Rattle.gw_msg.specs.declared.message.Command.{Command}
 use Rattle.gw_cmd.specs.declared.prepared.Prepared.{Prepared}
 use Rattle.gw_tx.specs.Properties.{ArePlain}
-use Rattle.gw_tx.proofs.CommandsSoFar.{no_command_yet, no_command_left, next_unused, next_covered, last_command, one_command_more}
+use Rattle.gw_tx.proofs.CommandsSoFar.{no_command_yet, no_command_left, next_covered, last_command, one_command_more}
 use Rattle.gw_tx.proofs.Prepared.{none_prepared, next_prepared, next_under, still_prepared}
 use Rattle.gw_tx.proofs.commands.commands_prepared.Goals as goal
 
@@ -26,16 +26,6 @@ attempt-requires-clause-covered c =
     let one : Prepared = get_or now.prepared i c.command-item.result in
     let within : i < length now.prepared = omega arith in
     next_covered now.invariant.so_far c.next_entry-slot.result.0 one.command.now one.command.now (drop (i + 1) cs) c.next_entry-slot.ensures.own refl (next_prepared task.rules.now now.prepared cs i now.invariant.prepared c.command-item.result within)
-
-pub attempt-requires-clause-unused : goal.attempt-requires-clause-unused
-attempt-requires-clause-unused c =
-    let now = c.loop-command in
-    let task = c.args.task.now in
-    let i : ℕ = now.command-index in
-    let cs : List Command = task.sent.now.commands in
-    let one : Prepared = get_or now.prepared i c.command-item.result in
-    let within : i < length now.prepared = omega arith in
-    next_unused now.invariant.so_far c.next_entry-slot.result.0 one.command.now one.command.now (drop (i + 1) cs) c.next_entry-slot.ensures.own refl (next_prepared task.rules.now now.prepared cs i now.invariant.prepared c.command-item.result within)
 
 pub returns-then-done : goal.returns-then-done
 returns-then-done c =

@@ -2,7 +2,6 @@ use Rattle.std.proofs.Common.{◌≡◌, ℕ, Bool, false, List, ◌∷◌, ◌+
 use Rattle.std.specs.Prelude.{◌||◌}
 use Rattle.std.proofs.Math.ListN.{drop_of_length-le}
 use Rattle.gw_base.specs.declared.ids.CtxNum.{CtxNum}
-use Rattle.gw_base.specs.declared.key.Key.TheVariants.{Ctx}
 use Rattle.gw_msg.specs.declared.message.Command.{Command}
 use Rattle.gw_refusal.specs.declared.at.At.TheVariants.{Each}
 use Rattle.gw_reply.specs.declared.reply.ActionReply.{ActionReply}
@@ -10,7 +9,7 @@ use Rattle.gw_reply.specs.declared.writer.ReplyWriter.{ReplyWriter}
 use Rattle.gw_reply.specs.Replies.{action_reply_text}
 use Rattle.gw_reserve.specs.Owned.{paired_commands}
 use Rattle.gw_table.specs.Maps.{Maps, number}
-use Rattle.gw_table.specs.Parts.{Parted, PartKeys, holds}
+use Rattle.gw_table.specs.Parts.{Parted}
 use Rattle.gw_table.proofs.Folding.{rest_of}
 use Rattle.gw_cmd.proofs.Parted.{StaysPart}
 use Rattle.gw_tx.specs.declared.limited_text.Progress.{Progress}
@@ -42,12 +41,6 @@ in_each-requires-clause-covered c =
     let a = c.args in
     let n : CtxNum = get_or a.numbers.now c.loop-number.number-index (number 0) in
     covers_list a.draft.now c.loop-number.draft a.task.now.slots.now c.loop-number.invariant.kept c.loop-number.invariant.keys (Each n) (paired_commands a.task.now.slots.now a.task.now.sent.now.commands) (c.requires.covered n).held
-
-pub in_each-requires-clause-key : goal.in_each-requires-clause-key
-in_each-requires-clause-key c =
-    let i : ℕ = c.loop-number.number-index in
-    let n : CtxNum = get_or c.args.numbers.now i (number 0) in
-    ap (λ (k : PartKeys). holds k (Ctx n)) c.loop-number.invariant.keys ∙ c.requires.key i (number 0) c.loop-number-test.true
 
 pub loop-number-preserved : goal.loop-number-preserved
 loop-number-preserved c =

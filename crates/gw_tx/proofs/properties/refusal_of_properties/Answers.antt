@@ -1,7 +1,6 @@
-use Rattle.std.proofs.Common.{◌≡◌, ◌==◌, true, length, List, [], ◌∷◌, None, refl, sym, ap, ◌∙◌, arith}
-use Rattle.std.proofs.lemmas.Bool.Decides.{nat_tests}
+use Rattle.std.proofs.lemmas.Grind.{common_steps}
+use Rattle.std.proofs.Common.{◌≡◌, ◌==◌, true, length, List, None, sym, ap, ◌∙◌, arith}
 use Rattle.gw_base.specs.declared.command_words.CtxRef.{CtxRef}
-use Rattle.gw_base.specs.declared.command_words.CtxRef.TheVariants as ref
 use Rattle.gw_msg.specs.declared.message.Command.{Command}
 use Rattle.gw_msg.specs.declared.message.ContextProp.{ContextProp}
 use Rattle.gw_tx.specs.Properties.{is_left_out, is_misplaced, has_twice, refusal_of_properties}
@@ -11,11 +10,7 @@ use Rattle.gw_tx.proofs.properties.refusal_of_properties.Goals as goal
 unasked : (props : List ContextProp) (ctx : CtxRef) (commands : List Command) → length props == 0 ≡ true
     → refusal_of_properties (record { ctx = ctx; props = props; commands = commands }) ≡ None
 unfolding is_left_out is_misplaced has_twice refusal_of_properties
-unasked [] ref.Null commands none = refl
-unasked [] ref.All commands none = refl
-unasked [] ref.Choose commands none = refl
-unasked [] (ref.Num n) commands none = refl
-unasked (p ∷ ps) ctx commands none = absurd (grind (arith, nat_tests, none))
+unasked props ctx commands none = grind (arith, common_steps)
 
 pub returns-then-is_empty : goal.returns-then-is_empty
 returns-then-is_empty c =

@@ -1,4 +1,4 @@
-use Rattle.std.proofs.Common.{◌≡◌, ℕ, List, Option, Ok, sym, ap, subst, ◌∙◌}
+use Rattle.std.proofs.Common.{◌≡◌, ℕ, List, Option, Ok, ap, ◌∙◌}
 use Rattle.gw_base.specs.declared.ids.CtxNum.{CtxNum}
 use Rattle.gw_reply.specs.declared.writer.ReplyWriter.{ReplyWriter}
 use Rattle.gw_msg.specs.declared.message.Action.{Action}
@@ -7,13 +7,9 @@ use Rattle.gw_reply.specs.declared.reply.TxReply.{TxReply}
 use Rattle.gw_table.specs.declared.attempts.Attempts.{Attempts}
 use Rattle.gw_table.specs.Maps.{Outcome}
 use Rattle.gw_reserve.specs.Owned.{paired_actions}
-use Rattle.gw_tx.specs.LimitedText.{limited_text_of, within, IsLimited}
-use Rattle.gw_tx.proofs.Limits.{still_limited}
+use Rattle.gw_tx.specs.LimitedText.{limited_text_of, within}
 use Rattle.gw_tx.specs.Transactions.{actions, paired_transaction}
 use Rattle.gw_tx.proofs.requests.transaction_within.Goals as goal
-
-pub limited_text_of-requires : goal.limited_text_of-requires
-limited_text_of-requires c = subst IsLimited (sym c.in_ok-written.ensures.answer) (still_limited c.writer_within.result (actions c.args.rules.now (paired_actions c.as_slice.result.now c.as_slice-2.result.now c.as_slice-3.result.now) c.args.draft.now.maps).answer.answers c.writer_within.ensures.limited)
 
 pub returns : goal.returns
 unfolding paired_transaction
