@@ -1,8 +1,7 @@
 -- Tables into which configured names are put one by one.
 use Rattle.std.proofs.lemmas.Grind.{common_steps}
-use Rattle.std.proofs.Common.{◌≡◌, ℕ, ◌≤◌, Bool, true, false, cond, List, [], ◌∷◌, ◌++◌, length, Option, None, Some, bytes_eq, refl, sym, ap, subst, ◌∙◌, arith}
-use Rattle.std.specs.Prelude.{◌||◌}
-use Rattle.std.proofs.lemmas.List.Folds.{list_any-append}
+use Rattle.std.proofs.Common.{◌≡◌, ℕ, ◌<◌, ◌≤◌, Bool, true, false, cond, List, [], ◌∷◌, ◌++◌, length, get_or, Option, None, Some, inl, inr, bytes_eq, refl, sym, ap, subst, ◌∙◌, arith}
+use Rattle.std.specs.Prelude.{◌||◌, ◌⊎◌}
 use Rattle.std.specs.Cmp.Lexicographic.{nat_list_cmp_total}
 use Rattle.std.specs.Ordering.{nat_cmp}
 use Rattle.std.specs.List.{list_any}
@@ -18,7 +17,9 @@ use Rattle.gw_base.proofs.Booleans.{refuted}
 use Rattle.gw_ctx.specs.Contexts.{ContextRecord}
 use Rattle.gw_ctx.specs.Fitting.{IsFit}
 use Rattle.gw_ctx.proofs.Fits.{fit_new}
+use Rattle.gw_base.proofs.NamesInLists.{in_pushed, itself}
 use Rattle.gw_table.specs.Maps.{Maps, term, ctx, put_term, context_of, members_of, place_of, no_maps, new_maps}
+use Rattle.gw_table.specs.Provided.{put_missing, AreAmong}
 use Rattle.gw_table.specs.Reserved.{is_reserved}
 use Rattle.gw_table.specs.WellFormed.{AreWellFormed, Fits}
 use Rattle.gw_table.proofs.Lookups.{term-put_term, same_maps}
@@ -38,24 +39,60 @@ term-new_maps (t ∷ ts) q =
     ∙ ap (cond (bytes_eq q t) (Some provisioned)) (term-new_maps ts q)
     ∙ either_in (bytes_eq q t) (is_in q ts)
 
--- the names so far have their terminations, no other has one, and there are no contexts
-abbrev pub AreProvided : List (List ℕ) → Maps → Type 0
-AreProvided front m = ((q : List ℕ) → term m q ≡ if_in (is_in q front)) × (m.contexts ≡ finite.empty)
+same_contexts : (m : Maps) (t : List ℕ) (o : Option Termination) → (put_term m t o).contexts ≡ m.contexts
+same_contexts m t o = grind arith
 
-pub provided_none : AreProvided [] no_maps
-provided_none = (λ q. get-empty name_cmp q, refl)
+pub among_nothing : (names : List (List ℕ)) → AreAmong names no_maps
+among_nothing names = record { terms = λ q r e. let none : None ≡ Some r = sym (get-empty name_cmp q) ∙ e in absurd cc; contexts = refl }
 
-in_more : (q t : List ℕ) (front : List (List ℕ)) → (bytes_eq q t || is_in q front) ≡ is_in q (front ++ t ∷ [])
-in_more q t front = grind (arith, common_steps, list_any-append)
+-- one more of the names
+pub among_put : (names : List (List ℕ)) (t : List ℕ) (m : Maps) → is_in t names ≡ true → AreAmong names m → AreAmong names (put_term m t (Some provisioned))
+among_put names t m inside among = record {
+  terms = λ q r e. by q r (bytes_eq q t) refl (sym (term-put_term m t (Some provisioned) q) ∙ e);
+  contexts = same_contexts m t (Some provisioned) ∙ among.contexts;
+}
+  where
+    by : (q : List ℕ) (r : Termination) (b : Bool) → bytes_eq q t ≡ b → cond b (Some provisioned) (term m q) ≡ Some r → (r ≡ provisioned) × (is_in q names ≡ true)
+    by q r true same e = (let is : provisioned ≡ r = cc in sym is, ap (λ (x : List ℕ). is_in x names) (same_name q t same) ∙ inside)
+    by q r false other e = among.terms q r e
 
-pub provided_more : (front : List (List ℕ)) (t : List ℕ) (m : Maps) → AreProvided front m → AreProvided (front ++ t ∷ []) (put_term m t (Some provisioned))
-provided_more front t m h = (
-  λ q. term-put_term m t (Some provisioned) q ∙ ap (cond (bytes_eq q t) (Some provisioned)) (h.0 q) ∙ either_in (bytes_eq q t) (is_in q front) ∙ ap if_in (in_more q t front),
-  h.1,
-)
+pub among_missing : (names : List (List ℕ)) (t : List ℕ) (m : Maps) (o : Option Termination) → is_in t names ≡ true → AreAmong names m → AreAmong names (put_missing t m o)
+among_missing names t m None inside among = among_put names t m inside among
+among_missing names t m (Some r) inside among = among
 
-pub provided_all : (names : List (List ℕ)) (m : Maps) → AreProvided names m → m ≡ new_maps names
-provided_all names m h = same_maps m (new_maps names) (λ q. h.0 q ∙ sym (term-new_maps names q)) (λ q. ap (λ (c : finite.FinMap nat_cmp ContextRecord). finite.get c q.0) h.1)
+-- the first of the names have their terminations
+abbrev pub AreThere : List (List ℕ) → Maps → Type 0
+AreThere front m = (q : List ℕ) → is_in q front ≡ true → term m q ≡ Some provisioned
+
+pub none_there : (m : Maps) → AreThere [] m
+none_there m q h = absurd cc
+
+-- one more of them
+pub there_missing : (names front : List (List ℕ)) (t : List ℕ) (m : Maps) → AreAmong names m → AreThere front m → AreThere (front ++ t ∷ []) (put_missing t m (term m t))
+there_missing names front t m among there q h = by (term m t) refl (in_pushed q t front h)
+  where
+    stands : (r : Termination) → term m t ≡ Some r → term m t ≡ Some provisioned
+    stands r e = e ∙ ap (λ (x : Termination). Some x) (among.terms t r e).0
+
+    by : (o : Option Termination) → term m t ≡ o → (is_in q front ≡ true) ⊎ (bytes_eq q t ≡ true) → term (put_missing t m o) q ≡ Some provisioned
+    by None e (inl before) = term-put_term m t (Some provisioned) q ∙ ap (λ x. cond (bytes_eq q t) (Some provisioned) x) (there q before) ∙ alike (bytes_eq q t)
+      where
+        alike : (b : Bool) → cond b (Some provisioned) (Some provisioned) ≡ Some provisioned
+        alike true = refl
+        alike false = refl
+    by None e (inr same) = term-put_term m t (Some provisioned) q ∙ ap (λ b. cond b (Some provisioned) (term m q)) same
+    by (Some r) e (inl before) = there q before
+    by (Some r) e (inr same) = ap (λ (x : List ℕ). term m x) (same_name q t same) ∙ stands r e
+
+-- all of them make the new tables
+pub there_all : (names : List (List ℕ)) (m : Maps) → AreAmong names m → AreThere names m → m ≡ new_maps names
+there_all names m among there =
+    same_maps m (new_maps names) (λ q. by q (term m q) refl (is_in q names) refl ∙ sym (term-new_maps names q)) (λ q. ap (λ (c : finite.FinMap nat_cmp ContextRecord). finite.get c q.0) among.contexts)
+  where
+    by : (q : List ℕ) (o : Option Termination) → term m q ≡ o → (b : Bool) → is_in q names ≡ b → term m q ≡ if_in (is_in q names)
+    by q o e true h = there q h ∙ sym (ap (λ b. if_in b) h)
+    by q None e false h = e ∙ sym (ap (λ b. if_in b) h)
+    by q (Some r) e false h = let clash : true ≡ false = sym (among.terms q r e).1 ∙ h in absurd cc
 
 -- a reserved name is not among names that are not
 not_listed : (names : List (List ℕ)) (t : List ℕ) → list_any is_reserved names ≡ false → is_reserved t ≡ true → is_in t names ≡ false
@@ -96,3 +133,8 @@ new_maps_fit limit names free = record {
     nowhere : (b : Bool) (n : CtxNum) → place_of (if_in b) ≡ Some n → ⊥
     nowhere true n e = cc
     nowhere false n e = cc
+
+-- ---- one of a list
+
+pub in_at : (names : List (List ℕ)) (i : ℕ) (t : List ℕ) → i < length names → t ≡ get_or names i t → is_in t names ≡ true
+in_at names i t h e = grind (arith, common_steps, itself)

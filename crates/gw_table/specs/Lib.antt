@@ -13,6 +13,7 @@ pub mod Marking
 pub mod Members
 pub mod UndoLog
 pub mod Parts
+pub mod Provided
 pub mod Reserved
 pub mod RowLending
 pub mod Rows

@@ -3,6 +3,7 @@
 ghost use Rattle.std.specs.Prelude.{◌≡◌, Some, IfOk, OnOk, option_copied};
 ghost use Rattle.gw_term.specs.Record.{provisioned};
 ghost use Rattle.gw_table.specs.Maps.{term, ctx, put_term, names, numbers, new_maps};
+ghost use Rattle.gw_table.specs.Provided.{put_missing, AreAmong};
 ghost use Rattle.gw_table.specs.Stored.{maps_of, nothing_stored, AreSwept, NoneIsOut};
 
 use crate::place::{Place, entry_at};
@@ -91,9 +92,54 @@ impl Tables {
         Ok(())
     }
 
+    /// The termination of a name, unless it is there.
+    fn provide_missing(&mut self, name: &TermName) -> Result<(), NoMemory>
+        ensures maps { OnOk result (maps_of self.new ≡ put_missing name.now (maps_of self.old) (term (maps_of self.old) name.now)) }
+        ensures out { OnOk result (NoneIsOut self.old → NoneIsOut self.new) }
+        ensures swept { OnOk result (AreSwept self.old → AreSwept self.new) }
+    {
+        match self.find_term(name) {
+            Some(_) => Ok(()),
+            None => self.provide(*name),
+        }
+    }
+
+    /// The terminations of three names of each five.
+    fn provide_most(&mut self, names: &[TermName]) -> Result<(), NoMemory>
+        requires among { AreAmong names.now (maps_of self.old) }
+        requires out { NoneIsOut self.old }
+        requires swept { AreSwept self.old }
+        ensures among { OnOk result (AreAmong names.now (maps_of self.new)) }
+        ensures out { OnOk result (NoneIsOut self.new) }
+        ensures swept { OnOk result (AreSwept self.new) }
+    {
+        for (i, name) in names.iter().enumerate() {
+            if i % 5 < 3 {
+                self.provide(*name)?;
+            }
+        }
+        Ok(())
+    }
+
+    /// The terminations of the names that have none.
+    fn provide_others(&mut self, names: &[TermName]) -> Result<(), NoMemory>
+        requires among { AreAmong names.now (maps_of self.old) }
+        requires out { NoneIsOut self.old }
+        requires swept { AreSwept self.old }
+        ensures maps { OnOk result (maps_of self.new ≡ new_maps names.now) }
+        ensures out { OnOk result (NoneIsOut self.new) }
+        ensures swept { OnOk result (AreSwept self.new) }
+    {
+        for name in names {
+            self.provide_missing(name)?;
+        }
+        Ok(())
+    }
+
     /// The configured terminations, all in the null context, and no contexts. A name that is given twice is there once.
-    /// No other key is prepared. The work is n log n in the names. There is room for the mark of each number and of each
-    /// slot, 8,704 bytes.
+    /// No other key is prepared. The work is n log n in the names. Names that come in order are put in in two turns, so
+    /// that the second fills the nodes that the first left half full. There is room for the mark of each number and of
+    /// each slot, 8,704 bytes.
     ///
     /// # Errors
     ///
@@ -105,9 +151,8 @@ impl Tables {
     {
         let names = config.terms.as_slice();
         let mut tables = Tables::marking(alloc, names.len())?;
-        for name in names {
-            tables.provide(*name)?;
-        }
+        tables.provide_most(names)?;
+        tables.provide_others(names)?;
         Ok(tables)
     }
 
