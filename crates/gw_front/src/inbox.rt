@@ -1,19 +1,16 @@
 //! The burst in hand: its datagrams, and who sent them.
 
-ghost use Rattle.std.specs.Prelude.{◌≡◌, ◌==◌, ◌+◌, ◌<◌, ◌≤◌, ◌++◌, ◌∷◌, [], false, List, length, slice_get, IfOk, OnOk, OnErr, IsTrue};
-ghost use Rattle.gw_engine.specs.Bursts.{AnswersBurst};
-ghost use Rattle.gw_engine.specs.Counts.{CountsBurst};
+ghost use Rattle.std.specs.Prelude.{◌≡◌, ◌==◌, ◌+◌, ◌<◌, ◌≤◌, ◌++◌, ◌∷◌, [], false, List, length, slice_get, IfOk, OnOk, IsTrue};
 ghost use Rattle.gw_front.specs.Events.{Packet};
 ghost use Rattle.gw_front.specs.Serving.{IsWithinLimits, burst_of};
 
 use crate::controllers::{Controller, is_admitted};
 use crate::exchange::Exchange;
 use gw_base::{Items, NoMemory};
-use gw_engine::{BurstAnswers, Datagram, Gate, Gateway, Octets, Workers};
+use gw_engine::{Datagram, Octets};
 use std::alloc::{AllocError, Global};
 use std::io;
 use std::net::SocketAddr;
-use std::thread::Threads;
 
 /// The most datagrams of a burst.
 pub(crate) const LARGEST_BURST: u32 = 256;
@@ -153,27 +150,19 @@ impl Inbox {
         self.datagrams.len()
     }
 
-    /// The gateway's answers to the burst.
+    /// The datagrams of the burst.
     ///
     /// # Errors
     ///
-    /// Out of memory, also where it was refused to a datagram of the burst. The gateway is then as it was.
-    pub(crate) fn run<T: Threads + Sync, G: Gate>(
-        &self,
-        workers: &Workers<'_, T, G>,
-        alloc: Global,
-        gateway: &mut Gateway,
-    ) -> Result<BurstAnswers, NoMemory>
+    /// Out of memory, where it was refused to one of them.
+    pub(crate) fn burst(&self) -> Result<&[Datagram], NoMemory>
         ensures limits { IsWithinLimits self.now.datagrams.items }
-        ensures answers { IfOk result (λ done. AnswersBurst gateway.old self.now.datagrams.items done.answers
-            gateway.new) }
-        ensures counts { IfOk result (λ done. CountsBurst gateway.old self.now.datagrams.items done.counts) }
+        ensures burst { IfOk result (λ burst. burst.now ≡ self.now.datagrams.items) }
         ensures whole { OnOk result (self.now.is_refused ≡ false) }
-        ensures refused { OnErr result (gateway.new ≡ gateway.old) }
     {
         if self.is_refused {
             return Err(NoMemory);
         }
-        gateway.run_counted(alloc, workers, self.datagrams.as_slice())
+        Ok(self.datagrams.as_slice())
     }
 }

@@ -1,9 +1,11 @@
-//! A turn of serving: datagrams are taken as they come, the burst is executed, its answers are sent.
+//! Serving burst after burst: datagrams are taken as they come, the burst is executed, its answers are sent.
 
-ghost use Rattle.std.specs.Prelude.{◌≡◌, ◌+◌, ◌<◌, ◌≤◌, [], ◌∷◌, List, length, OnOk, IfErr, IfOk};
+ghost use Rattle.std.specs.Prelude.{◌≡◌, ◌+◌, ◌<◌, ◌≤◌, [], ◌∷◌, List, length, OnOk, OnErr, IfErr, IfOk};
+ghost use Rattle.gw_engine.specs.Bursts.{AnswersBurst};
+ghost use Rattle.gw_engine.specs.Counts.{CountsBurst};
 ghost use Rattle.gw_front.specs.Events.{Packet, sent_all, Happens};
 ghost use Rattle.gw_front.specs.Inboxes.{Holds, Gathers};
-ghost use Rattle.gw_front.specs.Serving.{IsAtStart, IsAnswered, packets_to};
+ghost use Rattle.gw_front.specs.Serving.{IsAtStart, IsAnswered, IsWithinLimits, Serves, packets_to};
 ghost use Rattle.gw_front.specs.Servers.{HasSame};
 ghost use Rattle.gw_front.specs.TotalNumbers.{IsFull, no_totals, with_burst, with_dropped};
 ghost use Rattle.gw_front.specs.declared.serve_fault.ServeFault.TheVariants.{Receive, Poll as Refused, Full as HasEnough};
@@ -15,6 +17,7 @@ use crate::reporter::{Report, Reporter};
 use crate::serve_fault::ServeFault;
 use crate::serve_options::ServeOptions;
 use crate::totals::{Totals, check_dropped};
+use gw_base::NoMemory;
 use gw_engine::{BurstAnswers, Datagram, Gate, Gateway, Workers};
 use std::alloc::{AllocError, Global};
 use std::io::{ErrorKind, Write};
@@ -130,7 +133,7 @@ impl<'a> Server<'a> {
     }
 
     /// Waits for a burst. A wait follows only a receipt that gave nothing, since a poll reports changes alone.
-    pub(crate) fn next_burst<S: Exchange, W: Write>(
+    fn next_burst<S: Exchange, W: Write>(
         &mut self,
         rt: &impl Wait,
         alloc: Global,
@@ -213,12 +216,34 @@ impl<'a> Server<'a> {
         self.losses.lose(Loss::Burst, out);
     }
 
+    /// The gateway's answers to the burst.
+    ///
+    /// # Errors
+    ///
+    /// Out of memory, also where it was refused to a datagram of the burst. The gateway is then as it was.
+    fn run<T: Threads + Sync, G: Gate>(
+        &self,
+        workers: &Workers<'_, T, G>,
+        alloc: Global,
+        gateway: &mut Gateway,
+    ) -> Result<BurstAnswers, NoMemory>
+        ensures limits { IsWithinLimits self.now.inbox.datagrams.items }
+        ensures answers { IfOk result (λ done. AnswersBurst gateway.old self.now.inbox.datagrams.items done.answers
+            gateway.new) }
+        ensures counts { IfOk result (λ done. CountsBurst gateway.old self.now.inbox.datagrams.items done.counts) }
+        ensures whole { OnOk result (self.now.inbox.is_refused ≡ false) }
+        ensures refused { OnErr result (gateway.new ≡ gateway.old) }
+    {
+        let burst = self.inbox.burst()?;
+        gateway.run_counted(alloc, workers, burst)
+    }
+
     /// Executes the burst and sends its answers. A burst that is refused for memory is dropped.
     ///
     /// # Errors
     ///
     /// `Full` where as many were dropped in a row as may be.
-    pub(crate) fn answer_burst<T: Threads + Sync, G: Gate, S: Exchange, W: Write>(
+    fn answer_burst<T: Threads + Sync, G: Gate, S: Exchange, W: Write>(
         &mut self,
         workers: &Workers<'_, T, G>,
         alloc: Global,
@@ -235,7 +260,7 @@ impl<'a> Server<'a> {
         ensures ok { OnOk result (¬ IsFull self.new.options.give_up self.new.totals) }
         ensures fault { IfErr result (λ fault. (fault ≡ HasEnough) × IsFull self.new.options.give_up self.new.totals) }
     {
-        match self.inbox.run(workers, alloc, gateway) {
+        match self.run(workers, alloc, gateway) {
             Ok(done) => self.finish_burst(exchange, &done, out),
             Err(_) => self.drop_burst(out),
         }
@@ -243,27 +268,8 @@ impl<'a> Server<'a> {
         check_dropped(self.options.give_up, &self.totals)
     }
 
-    /// After how many bursts serving ends.
-    pub(crate) fn bursts(&self) -> Option<u64>
-        ensures { result ≡ self.now.options.bursts }
-    {
-        self.options.bursts
-    }
-
-    /// What was executed.
-    pub(crate) fn totals(&self) -> Totals
-        ensures { result ≡ self.now.totals }
-    {
-        self.totals
-    }
-
-    /// The time, where reports are written.
-    pub(crate) fn now(&self, rt: &impl Clock) -> Option<Instant> {
-        self.reporter.now(rt)
-    }
-
     /// Writes a report where one is due after a burst that began then.
-    pub(crate) fn report<W: Write>(
+    fn report<W: Write>(
         &mut self,
         rt: &impl Clock,
         begun: Option<Instant>,
@@ -283,4 +289,36 @@ impl<'a> Server<'a> {
             self.reporter.write(&report, out);
         }
     }
+}
+
+/// Serves so many bursts, or bursts without end.
+pub(crate) fn serve_bursts<R: Wait + Threads + Clock + Sync, G: Gate, S: Exchange, W: Write>(
+    rt: &R,
+    workers: &Workers<'_, R, G>,
+    alloc: Global,
+    server: &mut Server<'_>,
+    exchange: &mut S,
+    gateway: &mut Gateway,
+    out: &mut W,
+) -> Result<Totals, ServeFault>
+    requires holds { Holds server.old.inbox [] }
+    requires senders { server.old.inbox.senders.items ≡ [] }
+    requires totals { server.old.totals ≡ no_totals }
+    ensures served { Serves server.old.options (S.course exchange.old) (S.course exchange.new) gateway.old
+        gateway.new result }
+    ensures fault { IfErr result (λ fault. ¬ IsAtStart fault) }
+{
+    let mut left = server.options.bursts;
+    for _ in rt.forever() {
+        left = match left {
+            None => None,
+            Some(0) => return Ok(server.totals),
+            Some(count) => Some(count - 1),
+        };
+        server.next_burst(rt, alloc, exchange, out)?;
+        let begun = server.reporter.now(rt);
+        server.answer_burst(workers, alloc, exchange, gateway, out)?;
+        server.report(rt, begun, gateway, out);
+    }
+    unreachable!()
 }

@@ -1,55 +1,21 @@
 //! Serving controllers over UDP.
 
-ghost use Rattle.std.specs.Prelude.{◌≡◌, ◌≤◌, [], OnOk, IfErr, IsSome};
+ghost use Rattle.std.specs.Prelude.{◌≡◌, ◌≤◌, OnOk, IfErr, IsSome};
 ghost use Rattle.std.specs.Io.KnownBytes.{Keeps};
-ghost use Rattle.gw_front.specs.Inboxes.{Holds};
 ghost use Rattle.gw_front.specs.Serving.{Serves, ServesSome, IsAtStart};
-ghost use Rattle.gw_front.specs.TotalNumbers.{no_totals};
 
 use crate::exchange::{Bound, Exchange};
 use crate::serve_fault::ServeFault;
 use crate::serve_options::ServeOptions;
-use crate::server::Server;
+use crate::server::{Server, serve_bursts};
 use crate::totals::Totals;
-use gw_engine::{Gate, Gateway, OpenGate, Workers};
+use gw_engine::{Gateway, OpenGate, Workers};
 use std::alloc::Global;
 use std::io::Write;
 use std::net::{Net, SocketAddr};
 use std::sync::Wait;
 use std::thread::Threads;
 use std::time::Clock;
-
-/// Serves so many bursts, or bursts without end.
-fn serve_bursts<R: Wait + Threads + Clock + Sync, G: Gate, S: Exchange, W: Write>(
-    rt: &R,
-    workers: &Workers<'_, R, G>,
-    alloc: Global,
-    server: &mut Server<'_>,
-    exchange: &mut S,
-    gateway: &mut Gateway,
-    out: &mut W,
-) -> Result<Totals, ServeFault>
-    requires holds { Holds server.old.inbox [] }
-    requires senders { server.old.inbox.senders.items ≡ [] }
-    requires totals { server.old.totals ≡ no_totals }
-    ensures served { Serves server.old.options (S.course exchange.old) (S.course exchange.new) gateway.old
-        gateway.new result }
-    ensures fault { IfErr result (λ fault. ¬ IsAtStart fault) }
-{
-    let mut left = server.bursts();
-    for _ in rt.forever() {
-        left = match left {
-            None => None,
-            Some(0) => return Ok(server.totals()),
-            Some(count) => Some(count - 1),
-        };
-        server.next_burst(rt, alloc, exchange, out)?;
-        let begun = server.now(rt);
-        server.answer_burst(workers, alloc, exchange, gateway, out)?;
-        server.report(rt, begun, gateway, out);
-    }
-    unreachable!()
-}
 
 /// Says that the socket is bound. A writer that fails changes nothing.
 fn announce<W: Write>(out: &mut W) {

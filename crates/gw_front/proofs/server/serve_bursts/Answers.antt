@@ -4,8 +4,8 @@ use Rattle.gw_front.specs.Inboxes.{Holds}
 use Rattle.gw_front.specs.declared.inbox.Inbox.{Inbox}
 use Rattle.gw_front.specs.declared.totals.Totals.{Totals}
 use Rattle.gw_front.proofs.Served.{IsPartway, next_none, next_some, server_stepped, server_overfull}
-use Rattle.gw_front.proofs.serving.serve_bursts.Goals.{in-None-left, in-Some-left}
-use Rattle.gw_front.proofs.serving.serve_bursts.Goals as goal
+use Rattle.gw_front.proofs.server.serve_bursts.Goals.{in-None-left, in-Some-left}
+use Rattle.gw_front.proofs.server.serve_bursts.Goals as goal
 
 pub loop-preserved : goal.loop-preserved
 loop-preserved g c = record {

@@ -1,7 +1,7 @@
 use Rattle.std.proofs.Common.{◌≡◌, []}
 use Rattle.gw_front.specs.Inboxes.{Holds}
 use Rattle.gw_front.proofs.Served.{IsPartway}
-use Rattle.gw_front.proofs.serving.serve_bursts.Given as goal
+use Rattle.gw_front.proofs.server.serve_bursts.Given as goal
 
 abbrev pub invariant-loop : goal.invariant-loop
 invariant-loop g l = record {
