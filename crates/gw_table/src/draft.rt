@@ -187,25 +187,6 @@ impl Draft {
         self.set_term(*name, Some(termination))
     }
 
-    /// A context comes into being with its first member. The caller knows that there is none with the number.
-    fn begin(
-        &mut self,
-        alloc: Global,
-        number: CtxNum,
-        name: TermName,
-        limit: usize,
-    ) -> Result<(), NoMemory>
-        requires none { ctx self.old.maps number ≡ None }
-        requires room { 0 < limit }
-        requires key { holds self.old.keys (Ctx number) ≡ true }
-        ensures maps { OnOk result (self.new.maps ≡ with_member number name self.old.maps) }
-        ensures keys { self.new.keys ≡ self.old.keys }
-    {
-        let mut context = Context::new(alloc);
-        joined(&mut context, name, limit)?;
-        self.set_ctx(number, Some(context))
-    }
-
     /// The name joins the context in its place, if the draft is of whole tables in which it was written before. Answers
     /// whether it has joined; else nothing has changed.
     fn join_in_place(
@@ -245,9 +226,6 @@ impl Draft {
         ensures maps { OnOk result (self.new.maps ≡ with_member number name self.old.maps) }
         ensures keys { self.new.keys ≡ self.old.keys }
     {
-        if self.ctx(number).is_none() {
-            return self.begin(alloc, number, name, limit);
-        }
         if self.join_in_place(number, name, limit)? {
             return Ok(());
         }

@@ -23,7 +23,6 @@ mod tables;
 mod text;
 mod undo_log;
 mod unused;
-mod writes;
 
 pub use attempts::Attempts;
 pub use draft::Draft;
