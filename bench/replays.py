@@ -90,7 +90,7 @@ def inclusive(out, word):
 
 
 # Functions that stay whole in the built program. The rest of `run` is reading, telling repeats, keeping replies and copying answers.
-PARTS = {"executing requests, and writing their replies": "gw_board::job::carry_on", "all of `run`": "gw_engine::gateway::Gateway::run"}
+PARTS = {"executing requests, and writing their replies": "gw_board::reply::carry_on", "all of `run`": "gw_engine::gateway::Gateway::run"}
 
 
 def rates(folder):

@@ -13,8 +13,8 @@ ghost use Rattle.gw_board.specs.BoardEntries.{standing_of, place_of};
 
 use crate::board::Board;
 use crate::board_entry::{BoardEntry, Stage, all_pending, set_stage};
-use crate::job::carry_on;
 use crate::profile::Profile;
+use crate::reply::carry_on;
 use crate::requested::Task;
 use crate::undo_log::put_all_back;
 use crate::undo_step::UndoStep;

@@ -1,21 +1,28 @@
-//! The texts of replies.
+//! Executing a request, and the text of its reply.
 
-ghost use Rattle.std.specs.Prelude.{◌≡◌, IfOk, option_copied, slice_get};
+ghost use Rattle.std.specs.Prelude.{◌≡◌, IfOk, OnOk, option_copied, slice_get};
 ghost use Rattle.gw_reply.specs.Messages.{reply_text};
 ghost use Rattle.gw_reply.specs.declared.reply.TxReply.{TxReply};
+ghost use Rattle.gw_reserve.specs.Owned.{AreFreeSlots};
+ghost use Rattle.gw_tx.specs.Footprints.{Covers};
 ghost use Rattle.gw_tx.specs.LimitedText.{within};
 ghost use Rattle.gw_table.specs.Stored.{maps_of};
 ghost use Rattle.gw_board.specs.Boards.{AllClosed, requested_in, reply_of, reply_at};
-ghost use Rattle.gw_board.specs.Carried.{carried};
+ghost use Rattle.gw_board.specs.Carried.{carried, done, keys_of};
 ghost use Rattle.gw_board.specs.Limits.{reply_limit};
 ghost use Rattle.gw_board.specs.BoardEntries.{standing_of};
 
 use crate::board::Board;
 use crate::board_entry::Stage;
+use crate::profile::Profile;
+use crate::requested::BurstRequest;
+use bumpalo::Bump;
 use gw_base::{Code, Items, Mid, NoMemory, TxId};
 use gw_reply::{TxReply, write_framed_reply, write_reply};
-use gw_tx::LimitedText;
+use gw_table::Draft;
+use gw_tx::{LimitedText, transaction_within};
 use std::alloc::Global;
+use std::mem;
 
 /// How many bytes a message with a reply may have.
 const LONGEST_MESSAGE: usize = 16_384;
@@ -50,6 +57,44 @@ pub(crate) fn text_of_reply(
             Ok(Items::from(write_reply(alloc, &short, mid)?))
         }
     }
+}
+
+/// Executes a request on a draft that covers it, and writes the reply. What is behind the limit of a reply is
+/// executed, and not written. Texts are gathered in the block, which is left for the next request, whatever it has.
+///
+/// # Errors
+///
+/// Out of memory. Nothing is known of the draft then but its keys.
+pub(crate) fn carry_on(
+    alloc: Global,
+    profile: &Profile,
+    requested: &BurstRequest<'_, '_>,
+    draft: &mut Draft,
+    block: &mut Items<u8>,
+) -> Result<Items<u8>, NoMemory>
+    requires covered { Covers draft.old (keys_of requested.now draft.old.maps) }
+    requires unused { AreFreeSlots draft.old.maps requested.now.owned.slots }
+    ensures maps { OnOk result (draft.new.maps ≡ (done profile.now requested.now draft.old.maps).maps) }
+    ensures reply { IfOk result (λ text. text ≡ (done profile.now requested.now draft.old.maps).answer) }
+    ensures keys { draft.new.keys ≡ draft.old.keys }
+{
+    let scratch = Bump::new(alloc);
+    let request = requested.request.tree(&scratch)?;
+    let mid = &profile.mid;
+    let limit = reply_limit(mid);
+    let room = mem::replace(block, Items::new(alloc));
+    let limited_text = transaction_within(
+        alloc,
+        &profile.rules,
+        draft,
+        request,
+        &requested.owned,
+        room,
+        limit,
+    )?;
+    let text = text_of_reply(alloc, mid, request.id, &limited_text)?;
+    *block = limited_text.into_block(alloc);
+    Ok(text)
 }
 
 /// The text that a place is closed with.

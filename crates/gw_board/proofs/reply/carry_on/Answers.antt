@@ -8,7 +8,7 @@ use Rattle.gw_tx.specs.Transactions.{paired_transaction}
 use Rattle.gw_board.specs.Carried.{BurstRequest}
 use Rattle.gw_board.specs.Limits.{reply_limit}
 use Rattle.gw_board.proofs.ToldTexts.{same_id}
-use Rattle.gw_board.proofs.job.carry_on.Goals as goal
+use Rattle.gw_board.proofs.reply.carry_on.Goals as goal
 
 pub returns-clause-reply : goal.returns-clause-reply
 returns-clause-reply c =
