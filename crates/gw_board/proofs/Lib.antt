@@ -9,6 +9,7 @@ pub mod Ends
 pub mod FirstOfAll
 pub mod FirstOfWave
 pub mod GoingOn
+pub mod Groups
 pub mod InTurn
 pub mod Joining
 pub mod KeptIn

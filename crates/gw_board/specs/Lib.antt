@@ -7,6 +7,7 @@ pub mod Core
 pub mod Endings
 pub mod Fitting
 pub mod GoingOn
+pub mod Groups
 pub mod Jobs
 pub mod Limits
 pub mod Links

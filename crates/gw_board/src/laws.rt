@@ -3,6 +3,7 @@
 ghost use Rattle.std.specs.Prelude.{◌≡◌, ℕ, ◌<◌, nat_eq, Bool, length, true, false, List, [], ◌∷◌, Some, take, slice_get};
 ghost use Rattle.std.specs.List.{list_any};
 ghost use Rattle.gw_board.specs.declared.profile.Profile.{Profile};
+ghost use Rattle.gw_base.specs.declared.key.Key.{Key};
 ghost use Rattle.gw_board.specs.Texts.{Text};
 ghost use Rattle.gw_table.specs.Maps.{Maps};
 ghost use Rattle.gw_table.specs.Unused.{AreUnused};
@@ -12,6 +13,7 @@ ghost use Rattle.gw_board.specs.Carried.{BurstRequest, keys_of, carried};
 ghost use Rattle.gw_board.specs.Core.{Core, Job, Event, Events, MayDraw, start, pending, undrawn_at};
 ghost use Rattle.gw_board.specs.Endings.{all_ended};
 ghost use Rattle.gw_board.specs.Fitting.{FitsTogether};
+ghost use Rattle.gw_board.specs.Groups.{Grouped, requests_of, AreGroups, GoesByGroups};
 ghost use Rattle.gw_board.specs.UndoLog.{undo_log_of, undone};
 ghost use Rattle.gw_board.specs.Met.{IsRefused};
 ghost use Rattle.gw_board.specs.Planned.{IsPlan, MayOpenEach, MayOpenInTurn, MayOpenWith};
@@ -80,4 +82,11 @@ pub fn planned_keys_stay()
     ensures wave { (b : Seen) (planned : List Planned) → NothingIsOpen (core_of b) → IsPlan b planned → MayOpenInTurn b planned }
     ensures first { (b : Seen) (p : Planned) (later : List Planned) → MayOpenInTurn b (p ∷ later) → MayOpenWith b p.place p.keys }
     ensures next { (b c : Seen) (p : Planned) (later : List Planned) (h : Handed) → MayOpenInTurn b (p ∷ later) → Opens b p.place h c → h.keys ≡ p.keys → MayOpenInTurn c later }
+{}
+
+/// Requests in well-formed tables whose slots are distinct and unused, in groups no two of which share a key: executed
+/// one after another, they do what each group does by itself on the part that has its keys, whatever the groups' order;
+/// entries at no group's keys stay.
+pub fn groups_go_side_by_side()
+    ensures { (profile : Profile) (keys : ℕ → List Key) (m : Maps) (xs : List Grouped) → AreWellFormed profile.rules.members m → AreUnused m [] (slots_of (requests_of xs)) → AreGroups keys m xs → GoesByGroups profile keys m xs }
 {}
