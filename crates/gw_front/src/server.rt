@@ -1,6 +1,6 @@
 //! Serving burst after burst: datagrams are taken as they come, the burst is executed, its answers are sent.
 
-ghost use Rattle.std.specs.Prelude.{◌≡◌, ◌+◌, ◌<◌, ◌≤◌, [], ◌∷◌, List, length, OnOk, OnErr, IfErr, IfOk};
+ghost use Rattle.std.specs.Prelude.{◌≡◌, ◌+◌, ◌<◌, ◌≤◌, false, [], ◌∷◌, List, length, OnOk, OnErr, IfErr, IfOk};
 ghost use Rattle.gw_engine.specs.Bursts.{AnswersBurst};
 ghost use Rattle.gw_engine.specs.Counts.{CountsBurst};
 ghost use Rattle.gw_front.specs.Events.{Packet, sent_all, Happens};
