@@ -14,4 +14,4 @@ pub use laws::{
     requests_on_other_keys_change_places, requests_own_what_is_unused,
 };
 pub use merge::meets;
-pub use requests::{footprint, is_for_all};
+pub use requests::{footprint, footprint_keys, is_for_all};

@@ -2,6 +2,7 @@
 
 ghost use Rattle.std.specs.Prelude.{IfOk, ◌≡◌};
 ghost use Rattle.std.specs.List.{list_any};
+ghost use Rattle.gw_base.specs.declared.key.Key.{Key as AKey};
 ghost use Rattle.gw_base.specs.declared.key.Key.TheVariants.{Whole};
 ghost use Rattle.gw_base.specs.Keys.{has};
 ghost use Rattle.gw_table.specs.KeyLists.{IsListOf};
@@ -49,6 +50,32 @@ fn begun(alloc: Global, tables: &Tables, actions: &[Action<'_>]) -> Result<Vec<K
     Ok(keys)
 }
 
+/// The keys of a request with what it owns, as `footprint` has them, in no order, and some more than once. Every
+/// termination is looked at only where something in the request is whole-table.
+///
+/// # Errors
+///
+/// Out of memory.
+pub fn footprint_keys(
+    alloc: Global,
+    tables: &Tables,
+    request: &Request<'_>,
+    owned: &Owned,
+) -> Result<Vec<Key>, NoMemory>
+    ensures { IfOk result (λ keys. (k : AKey) → has keys.items k ≡ has (footprint_of (paired request.now owned.now) (maps_of tables.now)) k) }
+{
+    let actions = request.actions.as_slice();
+    let mut keys = begun(alloc, tables, actions)?;
+    add_actions(
+        tables,
+        owned.contexts.as_slice(),
+        owned.slots.as_slice(),
+        actions,
+        &mut keys,
+    )?;
+    Ok(keys)
+}
+
 /// The keys of a request with what it owns, in the tables as they are, over all its actions and commands, reached or
 /// not: each once, in order. With n keys the work is n log n. A wildcard's members are those that its context has;
 /// every termination is looked at only where something in the request is whole-table.
@@ -64,15 +91,7 @@ pub fn footprint(
 ) -> Result<Keys, NoMemory>
     ensures { IfOk result (λ keys. IsListOf keys (footprint_of (paired request.now owned.now) (maps_of tables.now))) }
 {
-    let actions = request.actions.as_slice();
-    let mut keys = begun(alloc, tables, actions)?;
-    add_actions(
-        tables,
-        owned.contexts.as_slice(),
-        owned.slots.as_slice(),
-        actions,
-        &mut keys,
-    )?;
+    let mut keys = footprint_keys(alloc, tables, request, owned)?;
     put_in_order(&mut keys);
     Ok(Keys::from_list(alloc, keys)?)
 }

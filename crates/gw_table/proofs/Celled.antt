@@ -33,14 +33,14 @@ use Rattle.gw_table.proofs.Prepared.{first}
 
 -- ---- one more key
 
-one_term : (t : List ℕ) (k : Key) (c : Cell) (es : List (List ℕ × Place Termination)) → lookup (is_at (name_cmp t)) (with_term k c es) ≡ cond (same_key (Term t) k) (Some (cell_term c)) (lookup (is_at (name_cmp t)) es)
+pub one_term : (t : List ℕ) (k : Key) (c : Cell) (es : List (List ℕ × Place Termination)) → lookup (is_at (name_cmp t)) (with_term k c es) ≡ cond (same_key (Term t) k) (Some (cell_term c)) (lookup (is_at (name_cmp t)) es)
 one_term t k c es = grind (arith, name_test)
 
 -- the key of a context's number
-abbrev of_number : ℕ → Key
+abbrev pub of_number : ℕ → Key
 of_number n = Ctx (record { 0 = n })
 
-one_ctx : (n : ℕ) (k : Key) (c : Cell) (es : List (ℕ × Place ContextRecord)) → lookup (is_at (nat_cmp n)) (with_ctx k c es) ≡ cond (same_key (of_number n) k) (Some (cell_ctx c)) (lookup (is_at (nat_cmp n)) es)
+pub one_ctx : (n : ℕ) (k : Key) (c : Cell) (es : List (ℕ × Place ContextRecord)) → lookup (is_at (nat_cmp n)) (with_ctx k c es) ≡ cond (same_key (of_number n) k) (Some (cell_ctx c)) (lookup (is_at (nat_cmp n)) es)
 one_ctx n k c es = grind arith
 
 -- ---- tests

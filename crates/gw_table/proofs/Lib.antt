@@ -1,4 +1,5 @@
 pub mod Celled
+pub mod Copied
 pub mod Exchanged
 pub mod Folding
 pub mod Frames
@@ -7,6 +8,7 @@ pub mod Growth
 pub mod InPlace
 pub mod KeyLists
 pub mod KeyOrder
+pub mod Laid
 pub mod Leaving
 pub mod Localities
 pub mod Lookups

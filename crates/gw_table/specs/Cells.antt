@@ -11,7 +11,8 @@ use Rattle.gw_table.specs.declared.place.Place.{Place}
 use Rattle.gw_table.specs.declared.place.Place.TheVariants.{Empty, Out}
 use Rattle.gw_table.specs.declared.cell.Cell.{Cell}
 use Rattle.gw_table.specs.declared.cell.Cell.TheVariants.{OfTerm, OfCtx, OfWhole}
-use Rattle.gw_table.specs.Stored.{Stored, put_term_place, put_ctx_place}
+use Rattle.gw_table.specs.Maps.{Maps, term, ctx, put_term, put_ctx}
+use Rattle.gw_table.specs.Stored.{Stored, placed, visible, put_term_place, put_ctx_place}
 
 -- the place of a termination; in the cell of another kind it is empty
 abbrev pub cell_term : Cell → Place Termination
@@ -71,11 +72,23 @@ cell_from s (Term t) = OfTerm (or_empty (finite.get s.terms t))
 cell_from s (Ctx n) = OfCtx (or_empty (finite.get s.contexts n.0))
 cell_from s Whole = OfWhole
 
+-- the cell of a key with its entry in maps
+abbrev pub visible_cell : Maps → Key → Cell
+visible_cell m (Term t) = OfTerm (placed (term m t))
+visible_cell m (Ctx n) = OfCtx (placed (ctx m n))
+visible_cell m Whole = OfWhole
+
 -- the tables with the place of a cell at its key
 abbrev pub with_cell : Key → Cell → Stored → Stored
 with_cell (Term t) c s = put_term_place s t (cell_term c)
 with_cell (Ctx n) c s = put_ctx_place s n (cell_ctx c)
 with_cell Whole c s = s
+
+-- maps with the entry in a cell at its key
+abbrev pub put_cell : Key → Cell → Maps → Maps
+put_cell (Term t) c m = put_term m t (visible (Some (cell_term c)))
+put_cell (Ctx n) c m = put_ctx m n (visible (Some (cell_ctx c)))
+put_cell Whole c m = m
 
 -- ---- where a key stands in a list in order
 

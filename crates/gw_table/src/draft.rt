@@ -1,27 +1,30 @@
 //! What commands work on: whole tables or a part, in place.
 
 ghost use Rattle.std.specs.Prelude.{◌≡◌, ◌<◌, None, true, false, length, IfOk, OnOk, OnErr, option_copied};
-ghost use Rattle.gw_base.specs.declared.key.Key.{Key};
+ghost use Rattle.gw_base.specs.declared.key.Key.{Key as AKey};
 ghost use Rattle.gw_base.specs.declared.key.Key.TheVariants.{Term, Ctx};
 ghost use Rattle.gw_base.specs.NameLists.{is_in};
+ghost use Rattle.gw_table.specs.Cells.{put_cell};
 ghost use Rattle.gw_table.specs.Joining.{with_member_if};
 ghost use Rattle.gw_table.specs.Maps.{term, ctx, put_term, put_ctx, names, numbers, members_of};
 ghost use Rattle.gw_table.specs.Members.{put_service, with_member, without_member};
 ghost use Rattle.gw_table.specs.UndoLog.{keys_written, undone};
-ghost use Rattle.gw_table.specs.Parts.{Over, Only, list_of, start_of, holds};
+ghost use Rattle.gw_table.specs.Parts.{Over, Only, list_of, start_of, holds, Holds, overlaid};
 ghost use Rattle.gw_table.specs.Stored.{maps_of, NoneIsOut, AreReady, KeepReady, NoOtherReady};
 
+use crate::cell::Cell;
 use crate::free::Target;
 use crate::in_place::InPlace;
 use crate::part::Part;
 use crate::row::joined;
 use crate::tables::Tables;
 use crate::undo_log::UndoLog;
-use gw_base::{CtxNum, NoMemory, Service, TermName};
+use gw_base::{CtxNum, Key, NoMemory, Service, TermName};
 use gw_ctx::Context;
 use gw_term::Termination;
 use std::alloc::Global;
 use std::marker::Model;
+use std::mem;
 
 /// What a draft works on.
 #[derive(Drop)]
@@ -291,7 +294,7 @@ impl Draft {
     /// Whether it is of whole tables, which have each key: a member of a context that it shows then has its entry in
     /// it. Of a part that is never said.
     pub fn has_every_key(&self) -> bool
-        ensures { result ≡ true → (k : Key) → holds self.now.keys k ≡ true }
+        ensures { result ≡ true → (k : AKey) → holds self.now.keys k ≡ true }
     {
         match &self.backing {
             Backing::OfTables(backing) => {
@@ -301,6 +304,57 @@ impl Draft {
             }
             Backing::OfPart(_) => false,
         }
+    }
+
+    /// The tables that a draft of whole tables changes, as they are.
+    pub fn tables(&self) -> &Tables
+        requires { self.now.keys ≡ Over (start_of self.now.keys) }
+        ensures maps { maps_of result.now ≡ self.now.maps }
+    {
+        match &self.backing {
+            Backing::OfTables(backing) => &backing.tables,
+            Backing::OfPart(part) => {
+                // No effect at run time. The proof reads here that it lists its keys.
+                let _ = &part.keys;
+                unreachable!()
+            }
+        }
+    }
+
+    /// Sets what is in the cell of a key, or none.
+    fn set_cell(&mut self, key: &Key, cell: Cell) -> Result<(), NoMemory>
+        requires { holds self.old.keys key.now ≡ true }
+        ensures maps { OnOk result (self.new.maps ≡ put_cell key.now cell self.old.maps) }
+        ensures keys { self.new.keys ≡ self.old.keys }
+    {
+        match key {
+            Key::Term(name) => self.set_term(*name, cell.into_term().into_entry()),
+            Key::Ctx(number) => self.set_ctx(*number, cell.into_ctx().into_entry()),
+            Key::Whole => Ok(()),
+        }
+    }
+
+    /// Lays the entries of a part over those of the draft: each of the part's keys has the part's entry then, or none
+    /// where the part has none. The caller knows that they are among the draft's keys. A key takes one write.
+    ///
+    /// # Errors
+    ///
+    /// Out of memory. Nothing is known of the draft then but its keys.
+    pub fn lay(&mut self, part: Part) -> Result<(), NoMemory>
+        requires { Holds self.old.keys (list_of part.keys) }
+        ensures maps { OnOk result (self.new.maps ≡ overlaid (list_of part.keys) part.maps self.old.maps) }
+        ensures keys { self.new.keys ≡ self.old.keys }
+    {
+        let Part {
+            keys,
+            mut cells,
+            guides: _,
+        } = part;
+        for (i, key) in keys.iter().enumerate() {
+            let cell = mem::replace(&mut cells[i], Cell::OfWhole);
+            self.set_cell(key, cell)?;
+        }
+        Ok(())
     }
 
     /// A draft of whole tables as the tables that it left, with what stood there before: the writes, taken back, give

@@ -1,8 +1,9 @@
 //! Tables that are changed in place, with what stood there before: each write, and the log of the first ones.
 
-ghost use Rattle.std.specs.Prelude.{◌≡◌, ◌<◌, false, length, None, IfOk, OnOk, OnErr};
+ghost use Rattle.std.specs.Prelude.{◌≡◌, ◌<◌, false, length, None, IfSome, OnSome, IfNone, IfOk, OnOk, OnErr};
 ghost use Rattle.gw_base.specs.NameLists.{is_in};
 ghost use Rattle.gw_base.specs.declared.key.Key.TheVariants.{Term, Ctx};
+ghost use Rattle.gw_table.specs.declared.place.Place.TheVariants.{Empty};
 ghost use Rattle.gw_table.specs.Found.{IsFound};
 ghost use Rattle.gw_table.specs.Joining.{HasJoinedAt, with_member_if};
 ghost use Rattle.gw_table.specs.Maps.{term, ctx, put_term, put_ctx, members_of};
@@ -69,6 +70,22 @@ impl Tables {
             .insert(number.0, Row::logged_in(writes, place))?;
         set_number(&mut self.numbers, number, stands);
         Ok(Found::Unlogged(None))
+    }
+
+    /// Empties the place of a context, and answers what was found there, which the caller logs next where the number is
+    /// not logged in the list of writes. A number that has no place gets none, and nothing changes. It is one look-up.
+    pub(crate) fn empty_ctx(&mut self, number: CtxNum, writes: &[Write]) -> Option<Found<Context>>
+        ensures found { IfSome result (λ found. IsFound (keys_written writes.now) (Ctx number) (ctx (maps_of self.old) number) found) }
+        ensures emptied { OnSome result (self.new ≡ put_ctx_place self.old number Empty) }
+        ensures absent { IfNone result (ctx (maps_of self.old) number ≡ None) }
+        ensures same { IfNone result (self.new ≡ self.old) }
+    {
+        let Some(row) = self.contexts.get_mut(&number.0) else {
+            return None;
+        };
+        let found = row.write(Place::Empty, writes, &Key::Ctx(number));
+        set_number(&mut self.numbers, number, false);
+        Some(found)
     }
 
     /// The name joins the context with a number, in its place, if there is one and the number is logged in the list of
@@ -185,7 +202,7 @@ impl InPlace {
     }
 
     /// Takes the context with a number out, to be changed and set again: the context itself where it was written
-    /// before, and else a copy, since what stood there is logged.
+    /// before, and else a copy, since what stood there is logged. A number that has no place is not written.
     pub(crate) fn take_ctx(&mut self, number: CtxNum) -> Result<Option<Context>, NoMemory>
         ensures context { IfOk result (λ context. context ≡ ctx self.old.maps number) }
         ensures maps { OnOk result (self.new.maps ≡ put_ctx self.old.maps number None) }
@@ -193,7 +210,9 @@ impl InPlace {
         ensures keys { self.new.keys ≡ self.old.keys }
     {
         make_room(&mut self.writes)?;
-        let found = self.tables.write_ctx(number, Place::Empty, &self.writes)?;
+        let Some(found) = self.tables.empty_ctx(number, &self.writes) else {
+            return Ok(None);
+        };
         match found {
             Found::Logged(context) => Ok(context),
             Found::Unlogged(None) => {

@@ -1,11 +1,11 @@
-//! Entries that go from tables to a part, and back. Nothing here takes memory.
+//! Entries that go from tables to a part, and back.
 
-ghost use Rattle.std.specs.Prelude.{◌≡◌, ◌≤◌, Some, [], true, List, length, vec_capacity};
+ghost use Rattle.std.specs.Prelude.{◌≡◌, ◌≤◌, Some, [], true, List, length, vec_capacity, IfOk};
 ghost use Rattle.std.specs.FinMap as finite;
 ghost use Rattle.gw_base.specs.declared.key.Key.{Key};
 ghost use Rattle.gw_base.specs.declared.key.Key.TheVariants.{Term, Ctx};
 ghost use Rattle.gw_base.specs.Keys.{has};
-ghost use Rattle.gw_table.specs.Cells.{celled, cell_from, out_cell, with_cell};
+ghost use Rattle.gw_table.specs.Cells.{celled, cell_from, out_cell, visible_cell, with_cell};
 ghost use Rattle.gw_table.specs.KeyLists.{IsInOrder};
 ghost use Rattle.gw_table.specs.Parts.{Only, list_of, restricted, cut, overlaid};
 ghost use Rattle.gw_table.specs.Stored.{nothing_stored, maps_of, is_ready, put_term_place, put_ctx_place, with_out, AreMoved, AreReady, AreIn, AreOut, AreAsReady, AreAsOut, WentOut, CameBack};
@@ -17,9 +17,10 @@ use crate::part::Part;
 use crate::place::Place;
 use crate::rows::{Guide, guide_at, set_guide};
 use crate::tables::Tables;
-use gw_base::{CtxNum, Key, TermName};
+use gw_base::{CtxNum, Key, NoMemory, TermName};
 use gw_ctx::Context;
 use gw_term::Termination;
+use std::alloc::Global;
 use std::mem;
 
 impl Tables {
@@ -151,6 +152,40 @@ impl Tables {
             cells,
             guides,
         }
+    }
+
+    /// A copy of what stands at a key, as its cell. One that is out is none.
+    fn copied_cell(&self, key: &Key) -> Result<Cell, NoMemory>
+        ensures { IfOk result (λ cell. cell ≡ visible_cell (maps_of self.now) key.now) }
+    {
+        match key {
+            Key::Term(name) => Ok(Cell::OfTerm(Place::of(self.find_term(name).cloned()?))),
+            Key::Ctx(number) => Ok(Cell::OfCtx(Place::of(self.find_ctx(*number).cloned()?))),
+            Key::Whole => Ok(Cell::OfWhole),
+        }
+    }
+
+    /// A part with copies of the entries at the keys, which the caller knows to be in order, each once. The tables keep
+    /// theirs. A key takes one look-up.
+    ///
+    /// # Errors
+    ///
+    /// Out of memory.
+    pub fn copied(&self, alloc: Global, keys: Vec<Key>) -> Result<Part, NoMemory>
+        requires { IsInOrder keys.items }
+        ensures keys { IfOk result (λ part. part.keys ≡ Only keys.items) }
+        ensures maps { IfOk result (λ part. part.maps ≡ restricted keys.items (maps_of self.now)) }
+    {
+        let guides = vec![in alloc; Guide::none(); keys.len()]?;
+        let mut cells = Vec::with_capacity(alloc, keys.len())?;
+        for key in &keys {
+            cells.push(self.copied_cell(key)?)?;
+        }
+        Ok(Part {
+            keys,
+            cells,
+            guides,
+        })
     }
 
     /// Lays the entries of a part over those that are here.

@@ -14,7 +14,6 @@ use crate::row::Row;
 use gw_base::NoMemory;
 use slab::Slab;
 use std::alloc::Global;
-use std::cell::Cell;
 use std::collections::{BTreeMap, btree_map};
 use std::marker::Model;
 
@@ -63,12 +62,12 @@ pub(crate) fn set_guide(guides: &mut [Guide], i: usize, guide: Guide) {
 }
 
 /// Rows by key, in the order of the keys: the index has the number of the row of each key. The place of a row that was
-/// dropped is used again. The key that was found last is found again without a search.
+/// dropped is used again. The key that was last found to be changed is found again without a search.
 #[derive(Drop)]
 pub(crate) struct Rows<K: Ord, T> {
     index: BTreeMap<K, usize>,
     rows: Slab<KeyedRow<K, T>>,
-    last: Cell<Guide>,
+    last: Guide,
 }
 
 impl<K: Ord, T> Model for Rows<K, T> {
@@ -93,32 +92,26 @@ impl<K, T> KeyedRow<K, T> {
     }
 }
 
-/// The number of the row of a key, if it has one: the guide where it is right, and else what the index has. The row is
-/// then the one that was found last.
+/// The number of the row of a key, if it has one: the guide where it is right, and else what the index has.
 fn number_of<K: Ord, T>(
     index: &BTreeMap<K, usize>,
     rows: &Slab<KeyedRow<K, T>>,
-    last: &Cell<Guide>,
+    last: Guide,
     guide: Guide,
     key: &K,
 ) -> Option<usize>
     requires { IsTied K.cmp index.now.entries rows.now.slots }
     ensures { result ≡ lookup (is_at (K.cmp key.now)) index.now.entries }
 {
-    let found_last = last.get();
-    let guide = guide.or(found_last);
+    let guide = guide.or(last);
     let number = guide.0 as usize;
     if let Some(keyed) = rows.get(number) {
         if keyed.key == *key {
-            last.set(guide);
             return Some(number);
         }
     }
     match index.get(key) {
-        Some(number) => {
-            last.set(Guide::at(*number));
-            Some(*number)
-        }
+        Some(number) => Some(*number),
         None => None,
     }
 }
@@ -133,7 +126,7 @@ impl<K: Ord, T> Rows<K, T> {
         Rows {
             index: BTreeMap::new(alloc),
             rows: Slab::new(alloc),
-            last: Cell::new(Guide::none()),
+            last: Guide::none(),
         }
     }
 
@@ -145,7 +138,7 @@ impl<K: Ord, T> Rows<K, T> {
         Ok(Rows {
             index: BTreeMap::new(alloc),
             rows,
-            last: Cell::new(Guide::none()),
+            last: Guide::none(),
         })
     }
 
@@ -175,20 +168,20 @@ impl<K: Ord, T> Rows<K, T> {
     pub(crate) fn get_at(&self, guide: Guide, key: &K) -> Option<&Row<T>>
         ensures { option_copied result ≡ found K.cmp self.now key.now }
     {
-        match number_of(&self.index, &self.rows, &self.last, guide, key) {
+        match number_of(&self.index, &self.rows, self.last, guide, key) {
             Some(number) => Some(&self.rows[number].row),
             None => None,
         }
     }
 
-    /// What stands at a key, which is not searched for where it was found last.
+    /// What stands at a key, which is not searched for where it was last found to be changed.
     pub(crate) fn get(&self, key: &K) -> Option<&Row<T>>
         ensures value { option_copied result ≡ found K.cmp self.now key.now }
     {
         self.get_at(Guide::none(), key)
     }
 
-    /// What stands at a key, to be changed. It is not searched for where it was found last.
+    /// What stands at a key, to be changed. It is not searched for where it was last found so.
     pub(crate) fn get_mut(&mut self, key: &K) -> Option<&mut Row<T>>
         ensures* writes_back { sem 𝓛 (LendsFound K.row T.row K.Ord self.entry key.now result) }
         ensures value { option_copied_mut result ≡ found K.cmp self.old key.now }
@@ -201,8 +194,11 @@ impl<K: Ord, T> Rows<K, T> {
         ensures* writes_back { sem 𝓛 (LendsFound K.row T.row K.Ord self.entry key.now result) }
         ensures value { option_copied_mut result ≡ found K.cmp self.old key.now }
     {
-        match number_of(&self.index, &self.rows, &self.last, guide, key) {
-            Some(number) => Some(self.rows[number].row_mut()),
+        match number_of(&self.index, &self.rows, self.last, guide, key) {
+            Some(number) => {
+                self.last = Guide::at(number);
+                Some(self.rows[number].row_mut())
+            }
             None => None,
         }
     }
@@ -230,7 +226,7 @@ impl<K: Ord + Copy + Drop, T: Drop> Rows<K, T> {
         let before = self.index.insert(key, number)?;
         let row = row.numbered(number);
         self.rows.insert_reserved(KeyedRow { key, row });
-        self.last.set(Guide::at(number));
+        self.last = Guide::at(number);
         let Some(before) = before else {
             return Ok(None);
         };

@@ -1,27 +1,15 @@
-use Rattle.std.proofs.Common.{◌≡◌, List, subst, sym, ap, ◌∙◌}
+use Rattle.std.proofs.Common.{List, subst, sym, ◌∙◌}
 use Rattle.gw_base.specs.declared.key.Key.{Key}
-use Rattle.gw_base.specs.Keys.{has}
 use Rattle.gw_table.specs.KeyLists.{IsListOf}
 use Rattle.gw_table.specs.Stored.{maps_of}
-use Rattle.gw_table.specs.Maps.{Maps}
 use Rattle.gw_tx.specs.Footprints.{footprint_of}
-use Rattle.gw_reserve.specs.Owned.{OwnedAction, paired, paired_actions}
-use Rattle.gw_foot.proofs.Gathering.{is_footprint}
+use Rattle.gw_reserve.specs.Owned.{paired}
 use Rattle.gw_foot.proofs.requests.footprint.Goals as goal
 
 pub returns : goal.returns
 returns c =
-    let m : Maps = maps_of c.args.tables.now in
-    let pairs : paired_actions c.as_slice.result.now c.as_slice-2.result.now c.as_slice-actions.result.now ≡ paired c.args.request.now c.args.owned.now =
-    ap (λ n. paired_actions n c.as_slice-2.result.now c.as_slice-actions.result.now) c.as_slice.ensures
-    ∙ ap (λ s. paired_actions c.args.owned.now.contexts s c.as_slice-actions.result.now) c.as_slice-2.ensures
-    ∙ ap (λ a. paired_actions c.args.owned.now.contexts c.args.owned.now.slots a) c.as_slice-actions.ensures in
-    let all : IsListOf c.put_in_order.new.keys.items (footprint_of (paired c.args.request.now c.args.owned.now) m) = record {
+    let all : IsListOf c.put_in_order.new.keys.items (footprint_of (paired c.args.request.now c.args.owned.now) (maps_of c.args.tables.now)) = record {
       order = c.put_in_order.ensures.order;
-      same = λ k.
-          c.put_in_order.ensures.same k
-          ∙ c.in_ok-add_actions.ensures k
-          ∙ is_footprint m c.as_slice.result.now c.as_slice-2.result.now c.as_slice-actions.result.now c.in_ok-keys.keys.items c.in_ok-keys.ensures k
-          ∙ ap (λ (l : List OwnedAction). has (footprint_of l m) k) pairs;
+      same = λ k. c.put_in_order.ensures.same k ∙ c.in_ok-keys.ensures k;
     } in
-    subst (λ (l : List Key). IsListOf l (footprint_of (paired c.args.request.now c.args.owned.now) m)) (sym c.in_ok-from_list.ensures) all
+    subst (λ (l : List Key). IsListOf l (footprint_of (paired c.args.request.now c.args.owned.now) (maps_of c.args.tables.now))) (sym c.in_ok-from_list.ensures) all
