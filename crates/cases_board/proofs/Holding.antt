@@ -4,14 +4,14 @@ use Rattle.std.specs.Prelude.{◌||◌, slice_get, slice_set}
 use Rattle.std.specs.List.{list_any, list_all}
 use Rattle.std.proofs.lemmas.List.{length-set}
 use Rattle.std.proofs.lemmas.Option.{slice_get_within}
-use Rattle.gw_base.proofs.Booleans.{neither, both as each_of}
-use Rattle.gw_board.specs.Boards.{Seen, Handed, HasOpen, Opens, core_of, requested_in, job_of, outcome_of, begun_board, with_result, unchanged, is_closed, AllClosed, reply_of, reply_at}
+use Rattle.gw_base.proofs.Booleans.{both as each_of}
+use Rattle.gw_board.specs.Boards.{Seen, Handed, HasOpen, Opens, core_of, requested_in, job_of, outcome_of, begun_board, with_result, unchanged, is_closed, AllClosed, IsSameBurst, reply_of, reply_at}
 use Rattle.gw_board.specs.Core.{Standing, Pending, Opened, Closed, Place, pending, open_with, closed_with}
-use Rattle.gw_board.specs.OpenJobs.{IsSameBurst}
 use Rattle.gw_board.specs.Results.{is_open, is_open_at, NothingIsOpen}
 use Rattle.gw_board.specs.declared.requested.BurstRequest.{BurstRequest}
 use Rattle.gw_board.specs.declared.profile.Profile.{Profile}
 use Rattle.gw_board.proofs.BoardEntryFacts.{length-pending}
+use Rattle.gw_board.proofs.OnTheWay.{requested-set}
 use Rattle.gw_table.specs.Stored.{Stored}
 use Rattle.cases_board.specs.Held.{IsHeld, AreHeld, job_in}
 
@@ -99,6 +99,13 @@ module _ (b c : Seen) (i : ℕ) (h : Handed) (o : Opens b i h c) (held : List (O
       (place_is, now_open)
       (λ l. absurd (let inside : i < length held = opened_inside in omega arith))
 
+  pub same_opened : IsSameBurst b c
+  same_opened = record {
+    profile = manner_is;
+    start = ap (λ (x : Seen). x.start) o.board;
+    requested = ap requested_in places_are ∙ requested-set b.places i (pending h.requested) (open_with h.requested (job_of h)) o.may.pends refl;
+  }
+
 -- ---- a job is taken away
 
 -- nothing is open where no job is kept
@@ -139,6 +146,28 @@ module _ (b c : Seen) (i : ℕ) (h : Handed) (held : List (Option Handed)) (a : 
   pub held_returned : c ≡ unchanged b h → AreHeld c (slice_set held i None)
   held_returned is = closed_as (pending h.requested) (ap (λ (x : Seen). x.profile) is) (ap (λ (x : Seen). x.places) is) refl
 
+  pub same_closed : c ≡ with_result b h → IsSameBurst b c
+  same_closed is = record {
+    profile = ap (λ (x : Seen). x.profile) is;
+    start = ap (λ (x : Seen). x.start) is;
+    requested = ap (λ (x : Seen). requested_in x.places) is ∙ requested-set b.places h.place (open_with h.requested (job_of h)) (closed_with h.requested (outcome_of h).answer) kept.1.stands refl;
+  }
+
+  pub same_returned : c ≡ unchanged b h → IsSameBurst b c
+  same_returned is = record {
+    profile = ap (λ (x : Seen). x.profile) is;
+    start = ap (λ (x : Seen). x.start) is;
+    requested = ap (λ (x : Seen). requested_in x.places) is ∙ requested-set b.places h.place (open_with h.requested (job_of h)) (pending h.requested) kept.1.stands refl;
+  }
+
+-- ---- the same burst
+
+pub same_itself : (b : Seen) → IsSameBurst b b
+same_itself b = record { profile = refl; start = refl; requested = refl }
+
+pub same_still : (b c d : Seen) → IsSameBurst b c → IsSameBurst c d → IsSameBurst b d
+same_still b c d s t = record { profile = t.profile ∙ s.profile; start = t.start ∙ s.start; requested = t.requested ∙ s.requested }
+
 -- ---- no job is kept
 
 none_at : (held : List (Option Handed)) (i : ℕ) → list_all is_none held ≡ true → job_in (slice_get held i) ≡ None
@@ -160,30 +189,6 @@ each_shut (p ∷ ps) f = by (is_open p.standing) (f 0) (each_shut ps (λ i. f (s
 
 pub nothing_open : (b : Seen) (held : List (Option Handed)) → AreHeld b held → list_all is_none held ≡ true → NothingIsOpen (core_of b)
 nothing_open b held a h = each_shut b.places (λ i. shut b i (slice_get held i) (none_at held i h) (a.each i))
-
--- ---- a place is carried out alone, while no job is kept
-
-length-requested : (places : List Place) → length (requested_in places) ≡ length places
-length-requested [] = refl
-length-requested (p ∷ ps) = ap suc (length-requested ps)
-
-shut_at : (places : List Place) (i : ℕ) → list_any (λ p. is_open p.standing) places ≡ false → is_open_at (slice_get places i) ≡ false
-shut_at [] i h = refl
-shut_at (p ∷ ps) zero h = (neither (is_open p.standing) (list_any (λ q. is_open q.standing) ps) h).0
-shut_at (p ∷ ps) (suc i) h = shut_at ps i (neither (is_open p.standing) (list_any (λ q. is_open q.standing) ps) h).1
-
--- whatever was closed, none is kept where nothing is open
-pub held_alone : (b c : Seen) (held : List (Option Handed)) → AreHeld b held → list_all is_none held ≡ true → NothingIsOpen (core_of c) → IsSameBurst b c → AreHeld c held
-held_alone b c held a none shut_all same =
-    record {
-      count = a.count ∙ sym (length-requested b.places) ∙ ap length (sym same.requested) ∙ length-requested c.places;
-      each = λ i. at i (slice_get held i) (none_at held i none) (shut_at c.places i shut_all);
-    }
-  where
-    at : (i : ℕ) (o : Option (Option Handed)) → job_in o ≡ None → is_open_at (slice_get c.places i) ≡ false → IsHeld c i o
-    at i None e h = h
-    at i (Some None) e h = h
-    at i (Some (Some g)) e h = absurd cc
 
 -- ---- at the start
 

@@ -80,9 +80,7 @@ fn carried_in(
     let Ok(requested) = requests_in(alloc, &tables, limits, &message) else {
         return Err(CaseFault::NoMemory);
     };
-    let Ok(tables) = executed_text(alloc, tables, *profile, &requested) else {
-        return Err(CaseFault::NoMemory);
-    };
+    let tables = executed_text(alloc, tables, *profile, &requested)?;
     Ok(Bench {
         profile: *profile,
         limits,

@@ -1,7 +1,7 @@
 //! Single steps on a board, and what each answers.
 
 ghost use Rattle.std.specs.Prelude.{◌≡◌, length, IsTrue};
-ghost use Rattle.gw_board.specs.Boards.{AllClosed};
+ghost use Rattle.gw_board.specs.Boards.{AllClosed, IsSameBurst};
 ghost use Rattle.cases_board.specs.Held.{AreHeld, MayEnd};
 
 use crate::held::{End, Held, hold, is_none_held, job_at, taken};
@@ -22,7 +22,8 @@ fn opened<'b, 'h, 'a>(
     place: usize,
 ) -> Result<(), OpenFault>
     requires { AreHeld board.old held.old.items }
-    ensures { AreHeld board.new held.new.items }
+    ensures held { AreHeld board.new held.new.items }
+    ensures same { IsSameBurst board.old board.new }
 {
     let job = board.open(alloc, place)?;
     hold(held, place, job);
@@ -37,7 +38,8 @@ fn closed<'b, 'h, 'a>(
     place: usize,
 ) -> Result<bool, NoMemory>
     requires { AreHeld board.old held.old.items }
-    ensures { AreHeld board.new held.new.items }
+    ensures held { AreHeld board.new held.new.items }
+    ensures same { IsSameBurst board.old board.new }
 {
     let Some(job) = taken(held, place) else {
         return Ok(false);
@@ -70,26 +72,25 @@ fn returned<'b, 'h, 'a>(
     true
 }
 
-/// Executes a place by itself, if no job is open and it is the first that is not closed. Whether that is so.
-fn carried_alone(
+/// Opens a place, executes its job and closes it with its result, if no job is open and it is the first place that
+/// is not closed. Whether that is so.
+fn carried_alone<'b, 'h, 'a>(
     alloc: Global,
-    board: &mut Board<'_, '_, '_>,
-    held: &[Option<Job<'_, '_, '_>>],
+    board: &mut Board<'b, 'h, 'a>,
+    held: &mut Held<'b, 'h, 'a>,
     place: usize,
 ) -> Result<bool, NoMemory>
-    requires { AreHeld board.old held.now }
-    ensures { AreHeld board.new held.now }
+    requires { AreHeld board.old held.old.items }
+    ensures { AreHeld board.new held.new.items }
 {
-    if !is_none_held(held) {
+    if !is_none_held(held) || board.first_unclosed(0) != Some(place) {
         return Ok(false);
     }
-    match board.first_unclosed(0) {
-        Some(first) if first == place => {
-            board.carry_alone(alloc, first)?;
-            Ok(true)
-        }
-        _ => Ok(false),
-    }
+    // The first place that is not closed is refused for memory alone.
+    let Ok(()) = opened(alloc, board, held, place) else {
+        return Err(NoMemory);
+    };
+    closed(alloc, board, held, place)
 }
 
 /// Opens all places of a wave, in its order, and closes them.
@@ -100,7 +101,8 @@ fn carry_wave<'b, 'h, 'a>(
     wave: &[usize],
 ) -> Result<(), CaseFault>
     requires { AreHeld board.old held.old.items }
-    ensures { AreHeld board.new held.new.items }
+    ensures held { AreHeld board.new held.new.items }
+    ensures same { IsSameBurst board.old board.new }
 {
     for place in wave {
         // While nothing else is open, a planned place is refused for memory alone.
@@ -117,13 +119,14 @@ fn carry_wave<'b, 'h, 'a>(
 }
 
 /// Executes what is pending, wave after wave: how many places each wave has.
-fn carry_in_waves<'b, 'h, 'a>(
+pub fn carry_in_waves<'b, 'h, 'a>(
     alloc: Global,
     board: &mut Board<'b, 'h, 'a>,
     held: &mut Held<'b, 'h, 'a>,
 ) -> Result<Vec<usize>, CaseFault>
     requires { AreHeld board.old held.old.items }
-    ensures { AreHeld board.new held.new.items }
+    ensures held { AreHeld board.new held.new.items }
+    ensures same { IsSameBurst board.old board.new }
 {
     let mut sizes = Vec::new(alloc);
     // There are at most as many waves as places.
@@ -141,7 +144,7 @@ fn carry_in_waves<'b, 'h, 'a>(
 }
 
 /// Whether each place is closed with a reply.
-fn is_over(board: &Board<'_, '_, '_>, count: usize) -> bool
+pub fn is_over(board: &Board<'_, '_, '_>, count: usize) -> bool
     requires { count ≡ length board.now.places }
     ensures { IsTrue result → AllClosed board.now.places }
 {
@@ -255,14 +258,14 @@ fn return_place<'b, 'h, 'a>(
     Ok(())
 }
 
-fn carry_place(
-    board: &mut Board<'_, '_, '_>,
-    held: &[Option<Job<'_, '_, '_>>],
+fn carry_place<'b, 'h, 'a>(
+    board: &mut Board<'b, 'h, 'a>,
+    held: &mut Held<'b, 'h, 'a>,
     place: usize,
     out: &mut Page,
 ) -> Result<(), CaseFault>
-    requires { AreHeld board.old held.now }
-    ensures { AreHeld board.new held.now }
+    requires { AreHeld board.old held.old.items }
+    ensures { AreHeld board.new held.new.items }
 {
     match carried_alone(out.alloc(), board, held, place) {
         Ok(is_first) => {

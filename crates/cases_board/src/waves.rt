@@ -1,59 +1,17 @@
 //! Requests that are executed in waves, to prepare the tables of a case.
 
-ghost use Rattle.std.specs.Prelude.{◌≡◌, [], IfOk, OnOk, OnErr};
+ghost use Rattle.std.specs.Prelude.{[], IfOk};
 ghost use Rattle.gw_table.specs.Stored.{maps_of, NoneIsOut};
 ghost use Rattle.gw_table.specs.Unused.{AreUnused};
 ghost use Rattle.gw_table.specs.WellFormed.{AreWellFormed};
-ghost use Rattle.gw_board.specs.Boards.{core_of, AllClosed};
-ghost use Rattle.gw_board.specs.OpenJobs.{AreAnswers, IsAnswer, IsSameBurst};
-ghost use Rattle.gw_board.specs.Results.{NothingIsOpen, slots_of};
+ghost use Rattle.gw_board.specs.Results.{slots_of};
 
-use gw_base::{Items, NoMemory};
-use gw_board::{Board, BoardFault, BurstRequest, Job, Profile, carry};
-use gw_table::{Part, Tables};
+use crate::held::none_held;
+use crate::steps::{carry_in_waves, is_over};
+use cases_text::CaseFault;
+use gw_board::{Board, BoardFault, BurstRequest, Profile};
+use gw_table::Tables;
 use std::alloc::Global;
-
-/// What a job came to.
-type Answer = Result<(Part, Items<u8>), NoMemory>;
-
-/// Executes a job.
-fn answer_to(alloc: Global, job: &Job<'_, '_, '_>) -> Answer
-    ensures { IsAnswer job.now result }
-{
-    carry(alloc, job)
-}
-
-/// An answer for each job.
-fn answers_to(alloc: Global, jobs: &[Job<'_, '_, '_>]) -> Result<Vec<Answer>, NoMemory>
-    ensures { IfOk result (λ answers. AreAnswers jobs.now answers.items) }
-{
-    let mut answers = Vec::with_capacity(alloc, jobs.len())?;
-    for job in jobs {
-        answers.push(answer_to(alloc, job))?;
-    }
-    Ok(answers)
-}
-
-/// Carries all requests of a board out, wave after wave.
-fn carry_all(alloc: Global, board: &mut Board<'_, '_, '_>) -> Result<(), NoMemory>
-    requires { NothingIsOpen (core_of board.old) }
-    ensures closed { OnOk result (AllClosed board.new.places) }
-    ensures same { IsSameBurst board.old board.new }
-{
-    while let Some(first) = board.first_unclosed(0) {
-        let Some(wave) = board.plan_next(alloc, first)? else {
-            board.carry_alone(alloc, first)?;
-            continue;
-        };
-        let jobs = board.open_wave(alloc, wave)?;
-        let Ok(answers) = answers_to(alloc, &jobs) else {
-            board.close_unchanged(jobs);
-            return Err(NoMemory);
-        };
-        board.close_wave(jobs, answers)?;
-    }
-    Ok(())
-}
 
 /// The tables after these requests. The caller knows that they are well-formed, that nothing is out, and that what is
 /// owned is unused.
@@ -62,7 +20,7 @@ pub fn executed_text(
     tables: Tables,
     profile: Profile,
     requested: &[BurstRequest<'_, '_>],
-) -> Result<Tables, NoMemory>
+) -> Result<Tables, CaseFault>
     requires whole { AreWellFormed profile.rules.members (maps_of tables) }
     requires here { NoneIsOut tables }
     requires unused { AreUnused (maps_of tables) [] (slots_of requested.now) }
@@ -71,9 +29,16 @@ pub fn executed_text(
 {
     let mut board = match Board::new(alloc, tables, profile, requested) {
         Ok(board) => board,
-        Err(BoardFault::NoMemory(_)) => return Err(NoMemory),
+        Err(BoardFault::NoMemory(_)) => return Err(CaseFault::NoMemory),
     };
-    carry_all(alloc, &mut board)?;
+    let Ok(mut held) = none_held(alloc, requested.len()) else {
+        return Err(CaseFault::NoMemory);
+    };
+    carry_in_waves(alloc, &mut board, &mut held)?;
+    // Each wave closes a place, so that all are closed.
+    if !is_over(&board, held.len()) {
+        return Err(CaseFault::NoMemory);
+    }
     let (tables, _replies) = board.finish();
     Ok(tables)
 }

@@ -3,12 +3,11 @@ use Rattle.std.proofs.lemmas.Grind.{common_steps}
 use Rattle.std.proofs.Common.{◌≡◌, ℕ, zero, suc, ◌<◌, ◌≤◌, Bool, true, false, cond, List, [], ◌∷◌, ◌++◌, map, length, Some, refl, sym, ap, arith, slice_index_or}
 use Rattle.std.specs.Prelude.{slice_get, slice_set}
 use Rattle.gw_board.specs.Texts.{Text}
-use Rattle.gw_board.specs.Boards.{requested_in, is_closed, is_pending_at, unclosed}
+use Rattle.gw_board.specs.Boards.{requested_in, is_closed, unclosed}
 use Rattle.gw_board.specs.Carried.{BurstRequest}
 use Rattle.gw_board.specs.Core.{Standing, Closed, Place, pending}
 use Rattle.gw_board.specs.BoardEntries.{standing_of, place_of}
 use Rattle.gw_board.specs.declared.board_entry.Stage.{Stage}
-use Rattle.gw_board.specs.declared.board_entry.Stage.TheVariants as stage
 use Rattle.gw_board.specs.declared.board_entry.BoardEntry.{BoardEntry}
 
 pub seat_inside : (board_entries : List BoardEntry) (i : ℕ) (p : Place) → slice_get (map place_of board_entries) i ≡ Some p → i < length board_entries
@@ -33,11 +32,6 @@ seat_place [] i s l f = absurd (omega arith)
 seat_place (t ∷ ts) zero s l f = ap (λ (x : BoardEntry). Some (place_of x)) (sym f)
 seat_place (t ∷ ts) (suc i) s l f = seat_place ts i s (omega arith) f
 
-pub pending_inside : (places : List Place) (i : ℕ) → is_pending_at (slice_get places i) ≡ true → i < length places
-pending_inside [] i h = absurd cc
-pending_inside (p ∷ ps) zero h = omega arith
-pending_inside (p ∷ ps) (suc i) h = let below : i < length ps = pending_inside ps i h in omega (arith, below)
-
 -- ---- how many are not closed
 
 pub unclosed-pending : (requested : List BurstRequest) → unclosed (map pending requested) ≡ length requested
@@ -51,11 +45,6 @@ pub length-pending : (requested : List BurstRequest) → length (map pending req
 length-pending requested = grind (arith, common_steps)
 
 module _ (a b : ℕ) where
-  both_open : (x y : Bool) → x ≡ false → y ≡ false → a ≡ b → cond x a (suc a) ≡ cond y b (suc b)
-  both_open true y e f g = absurd cc
-  both_open false true e f g = absurd cc
-  both_open false false e f g = ap suc g
-
   either_way : (x : Bool) → a ≡ b → cond x a (suc a) ≡ cond x b (suc b)
   either_way true g = g
   either_way false g = ap suc g

@@ -67,17 +67,6 @@ closed_here (q ∷ qs) (suc i) p e f h =
     let both = neither (not (is_closed q.standing)) (list_any (λ x. not (is_closed x.standing)) (take i qs)) h in
     λ k. both.0 k || closed_here qs i p e f both.1 k
 
--- one of those that are closed is not pending
-pub closed_there : (places : List Place) (i : ℕ) (p : Place) → slice_get places i ≡ Some p → AllClosed (take (suc i) places) → is_pending p.standing ≡ false
-closed_there [] i p e h = absurd cc
-closed_there (q ∷ qs) zero p e h = let same : q ≡ p = cc in subst (λ (x : Place). is_pending x.standing ≡ false) same (by q.standing (neither (not (is_closed q.standing)) false h).0)
-  where
-    by : (x : Standing) → not (is_closed x) ≡ false → is_pending x ≡ false
-    by Pending f = absurd cc
-    by (Opened j) f = refl
-    by (Closed reply) f = refl
-closed_there (q ∷ qs) (suc i) p e h = closed_there qs i p e (neither (not (is_closed q.standing)) (list_any (λ x. not (is_closed x.standing)) (take (suc i) qs)) h).1
-
 -- what is neither closed nor open is pending
 pub unclosed_pends : (places : List Place) (i : ℕ) → list_any (λ p. is_open p.standing) places ≡ false → is_unclosed_at (slice_get places i) ≡ true → is_pending_at (slice_get places i) ≡ true
 unclosed_pends [] i none h = absurd cc

@@ -1,5 +1,5 @@
--- The places of a wave are opened on a board, with the keys that were found when it was planned, unless memory is wanting.
-use Rattle.std.proofs.Common.{◌≡◌, ℕ, zero, suc, ◌<◌, true, false, List, [], ◌∷◌, map, take, Option, Some, None, refl, sym, ap, subst, ◌∙◌, arith}
+-- The places of a wave are opened on a board, unless memory is wanting.
+use Rattle.std.proofs.Common.{◌≡◌, ℕ, zero, suc, ◌<◌, true, false, List, [], ◌∷◌, take, Option, Some, None, refl, sym, ap, subst, ◌∙◌, arith}
 use Rattle.std.specs.Prelude.{slice_get, slice_set}
 use Rattle.gw_base.specs.declared.key.Key.{Key}
 use Rattle.gw_base.specs.Keys.{has}
@@ -9,15 +9,13 @@ use Rattle.gw_table.specs.Maps.{Maps}
 use Rattle.gw_board.specs.Boards.{Seen, Handed, core_of, with_open, Opens, is_pending_at, meets_here}
 use Rattle.gw_board.specs.Carried.{BurstRequest, keys_of}
 use Rattle.gw_board.specs.Core.{Core, Place, pending, open_with, meets_at, meets_any, AreKeysOf, MayOpen, after_open}
-use Rattle.gw_board.specs.Fitting.{Each}
 use Rattle.gw_board.specs.Met.{IsRefused}
-use Rattle.gw_board.specs.Planned.{IsPlan, IsReckoned, MayOpenEach, MayOpenInTurn}
+use Rattle.gw_board.specs.Planned.{MayOpenEach}
 use Rattle.gw_board.specs.Results.{NothingIsOpen}
 use Rattle.gw_board.specs.Waves.{wave, MayOpenAll}
 use Rattle.gw_board.specs.declared.fault.OpenFault.{OpenFault}
 use Rattle.gw_board.specs.declared.fault.OpenFault.TheVariants.{NotPending, Meets, NoMemory}
-use Rattle.gw_board.specs.declared.planned.Planned.{Planned}
-use Rattle.gw_board.proofs.Together.{InTurn, wave_in_turn, wave_may_open}
+use Rattle.gw_board.proofs.Together.{wave_may_open}
 
 -- a state and a board with the same maps and places
 on_board : (l : List ℕ) (s : Core) (b : Seen) → s.maps ≡ b.maps → s.places ≡ b.places → MayOpenAll s l → MayOpenEach b l
@@ -73,33 +71,3 @@ not_refused b i later (Meets j) each r =
     let met : meets_any (keys_of r.requested b.maps) b.maps (take i b.places) ≡ true = met_before (keys_of r.requested b.maps) b.maps b.places i j r.earlier r.met in
     absurd (let clash : true ≡ false = sym met ∙ ap (λ (a : BurstRequest). meets_any (keys_of a b.maps) b.maps (take i b.places)) same ∙ first.free in cc)
 not_refused b i later NoMemory each r = refl
-
--- ---- with the keys that were found
-
-with_keys : (start : Seen) (l : List ℕ) (s : Core) (b : Seen) (planned : List Planned) → map (λ (p : Planned). p.place) planned ≡ l → Each (IsReckoned start) planned
-    → s.maps ≡ b.maps → s.places ≡ b.places → InTurn (core_of start) s l → MayOpenInTurn b planned
-with_keys start l s b [] e r m q g = tt
-with_keys start [] s b (p ∷ ps) e r m q g = absurd cc
-with_keys start (i ∷ later) s b (p ∷ ps) e r m q g =
-    let first : p.place ≡ i = cc in
-    let rest : map (λ (p : Planned). p.place) ps ≡ later = cc in
-    let a : BurstRequest = g.0.requested in
-    let same : r.0.requested ≡ a = same_asked start p.place r.0.requested a r.0.pends (ap (λ (n : ℕ). slice_get start.places n) first ∙ g.0.stands) in
-    let listed : AreKeysOf a s.maps p.keys = λ k. r.0.listed k ∙ ap (λ (x : BurstRequest). has (keys_of x start.maps) k) same ∙ ap (λ (ks : List Key). has ks k) (sym g.0.keys) in
-    let now = g.1 p.keys listed in (
-      record {
-        requested = a;
-        may = record {
-          pends = (λ j. slice_get (sym q j) (first j)) ∙ now.0.pends;
-          listed = λ k. listed k ∙ ap (λ (n : Maps). has (keys_of a n) k) m;
-          free = (λ j. meets_any (keys_of a (sym m j)) (sym m j) (take (first j) (sym q j))) ∙ now.0.free;
-        };
-      },
-      with_keys start later (after_open s i a p.keys) (with_open b p.place a p.keys) ps rest r.1
-          (ap (λ (n : Maps). cut p.keys n) m)
-          (λ j. slice_set (q j) (sym first j) (open_with a (record { keys = p.keys; part = restricted p.keys (m j); result = None })))
-          now.1,
-    )
-
-pub planned_in_turn : (b : Seen) (planned : List Planned) → NothingIsOpen (core_of b) → IsPlan b planned → MayOpenInTurn b planned
-planned_in_turn b planned h p = with_keys b (wave (core_of b)) (core_of b) b planned p.places p.keys refl refl (wave_in_turn (core_of b) h)

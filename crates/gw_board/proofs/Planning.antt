@@ -1,7 +1,6 @@
 -- A wave, one place after another.
-use Rattle.std.proofs.lemmas.Grind.{common_steps}
-use Rattle.std.proofs.Common.{◌≡◌, ℕ, zero, suc, ◌+◌, ◌≤◌, Bool, true, false, cond, ◌&&◌, not, List, [], ◌∷◌, ◌++◌, map, take, filter, Option, None, Some, is_some, refl, sym, ap, ◌∙◌, arith}
-use Rattle.std.specs.Prelude.{◌||◌, slice_get, IfSome}
+use Rattle.std.proofs.Common.{◌≡◌, ℕ, zero, suc, ◌+◌, ◌<◌, ◌≤◌, Bool, true, false, cond, ◌&&◌, not, List, [], ◌∷◌, ◌++◌, take, filter, Option, None, Some, refl, sym, ap, ◌∙◌, arith, append-nil}
+use Rattle.std.specs.Prelude.{◌||◌, slice_get}
 use Rattle.std.specs.List.{list_any, range_with_len}
 use Rattle.std.proofs.lemmas.List.{map-id}
 use Rattle.std.proofs.lemmas.List.Elements.{filter-append}
@@ -9,23 +8,18 @@ use Rattle.std.proofs.lemmas.List.FromFn.{map-range_with_len_more}
 use Rattle.gw_base.specs.declared.key.Key.{Key}
 use Rattle.gw_base.specs.declared.key.Key.TheVariants.{Whole}
 use Rattle.gw_base.specs.Keys.{has}
-use Rattle.gw_base.proofs.Booleans.{both}
 use Rattle.gw_base.proofs.NamesInLists.{or_left, or_right, or_cases, either}
 use Rattle.gw_foot.specs.Meets.{meets}
-use Rattle.gw_board.specs.Boards.{Seen}
 use Rattle.gw_board.specs.Carried.{keys_of}
-use Rattle.gw_board.specs.Core.{Place, Core, pending, AreKeysOf}
-use Rattle.gw_board.specs.Fitting.{Each}
-use Rattle.gw_board.specs.Planned.{IsReckoned, planned_with}
+use Rattle.gw_board.specs.Core.{Place, Core}
 use Rattle.gw_board.specs.Waiting.{is_waiting, meet_waiting}
 use Rattle.gw_board.specs.Waves.{is_pending, meets_pending, is_free}
-use Rattle.gw_board.specs.declared.planned.Planned.{Planned}
 use Rattle.gw_board.specs.declared.waiting.Waiting.{Waiting}
 
 or_false : (b : Bool) → (b || false) ≡ b
 or_false b = grind arith
 
-pub or_group : (a b c : Bool) → (a || (b || c)) ≡ ((a || b) || c)
+or_group : (a b c : Bool) → (a || (b || c)) ≡ ((a || b) || c)
 or_group a b c = grind arith
 
 pub any-take_more : {X : Type 0} (f : X → Bool) (xs : List X) (i : ℕ) (x : X) → slice_get xs i ≡ Some x → list_any f (take (suc i) xs) ≡ (list_any f (take i xs) || f x)
@@ -33,7 +27,7 @@ any-take_more f [] i x e = absurd cc
 any-take_more f (y ∷ ys) zero x e = let same : y ≡ x = cc in or_false (f y) ∙ ap f same
 any-take_more f (y ∷ ys) (suc i) x e = ap (λ b. f y || b) (any-take_more f ys i x e) ∙ or_group (f y) (list_any f (take i ys)) (f x)
 
-pub and_false : (b : Bool) → (b && false) ≡ false
+and_false : (b : Bool) → (b && false) ≡ false
 and_false b = grind arith
 
 range_more : (n : ℕ) → range_with_len 0 (n + 1) ≡ range_with_len 0 n ++ n ∷ []
@@ -43,11 +37,15 @@ range_more n = sym (map-id (range_with_len 0 (n + 1))) ∙ (map-range_with_len_m
 abbrev pub free_at : Core → ℕ → Bool
 free_at s i = is_free s.maps (take i s.places) (slice_get s.places i)
 
-pub filter_more : (f : ℕ → Bool) (n : ℕ) → filter f (range_with_len 0 (n + 1)) ≡ filter f (range_with_len 0 n) ++ cond (f n) (n ∷ []) []
+filter_more : (f : ℕ → Bool) (n : ℕ) → filter f (range_with_len 0 (n + 1)) ≡ filter f (range_with_len 0 n) ++ cond (f n) (n ∷ []) []
 filter_more f n = ap (filter f) (range_more n) ∙ filter-append f (range_with_len 0 n) (n ∷ [])
 
-pub wave_more : (s : Core) (n : ℕ) → filter (free_at s) (range_with_len 0 (n + 1)) ≡ filter (free_at s) (range_with_len 0 n) ++ cond (free_at s n) (n ∷ []) []
+wave_more : (s : Core) (n : ℕ) → filter (free_at s) (range_with_len 0 (n + 1)) ≡ filter (free_at s) (range_with_len 0 n) ++ cond (free_at s n) (n ∷ []) []
 wave_more s n = filter_more (free_at s) n
+
+-- where it is in the wave, the place goes last
+pub place_more : (s : Core) (n : ℕ) (free : Bool) (old new : List ℕ) → free ≡ free_at s n → old ≡ filter (free_at s) (range_with_len 0 n) → new ≡ old ++ cond free (n ∷ []) [] → new ≡ filter (free_at s) (range_with_len 0 (n + 1))
+place_more s n free old new e f h = h ∙ (λ j. f j ++ cond (e j) (n ∷ []) []) ∙ sym (wave_more s n)
 
 -- those that wait are the earlier pending places
 abbrev pub AreThose : Core → ℕ → Waiting → Type 0
@@ -86,20 +84,13 @@ none_behind s n waiting h w i l = by (slice_get s.places i)
     by None = refl
     by (Some p) = ap (λ b. is_pending p.standing && not b) (met (keys_of p.requested s.maps)) ∙ and_false (is_pending p.standing)
 
--- ---- a place with its keys
-
-pub placed : (i : ℕ) (found : Option (List Key)) → map (λ (p : Planned). p.place) (planned_with i found) ≡ cond (is_some found) (i ∷ []) []
-placed i found = grind arith
-
-pending_if : (p : Place) → is_pending p.standing ≡ true → p ≡ pending p.requested
-pending_if p h = grind arith
-
-pub reckoned : (b : Seen) (i : ℕ) (p : Place) (found : Option (List Key)) (free : Bool) → slice_get b.places i ≡ Some p → is_some found ≡ (is_pending p.standing && free)
-    → IfSome found (AreKeysOf p.requested b.maps) → Each (IsReckoned b) (planned_with i found)
-reckoned b i p found free e f g = grind (arith, pending_if, both)
-
-pub each-append : {X : Type 0} (P : X → Type 0) (xs ys : List X) → Each P xs → Each P ys → Each P (xs ++ ys)
-each-append P xs ys h g = grind (arith, common_steps)
-
-pub map-append : {X Y : Type 0} (f : X → Y) (xs ys : List X) → map f (xs ++ ys) ≡ map f xs ++ map f ys
-map-append f xs ys = grind (arith, common_steps)
+-- nothing of the rest passes
+pub filter_end : (f : ℕ → Bool) (e d : ℕ) → ((i : ℕ) → e ≤ i → i < e + d → f i ≡ false) → filter f (range_with_len 0 (e + d)) ≡ filter f (range_with_len 0 e)
+filter_end f e zero h = ap (λ n. filter f (range_with_len 0 n)) (let g : e + zero ≡ e = omega arith in g)
+filter_end f e (suc d) h =
+    let next : e + suc d ≡ (e + d) + 1 = omega arith in
+    ap (λ n. filter f (range_with_len 0 n)) next
+    ∙ filter_more f (e + d)
+    ∙ ap (λ b. filter f (range_with_len 0 (e + d)) ++ cond b ((e + d) ∷ []) []) (h (e + d) (omega arith) (omega arith))
+    ∙ append-nil (filter f (range_with_len 0 (e + d)))
+    ∙ filter_end f e d (λ i l m. h i l (omega arith))

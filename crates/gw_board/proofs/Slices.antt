@@ -1,5 +1,5 @@
 -- An item of a list, what is before it and what is behind it.
-use Rattle.std.proofs.Common.{◌≡◌, ℕ, zero, suc, List, [], ◌∷◌, ◌++◌, length, take, drop, refl, sym, ap, ◌∙◌}
+use Rattle.std.proofs.Common.{◌≡◌, ℕ, zero, suc, List, [], ◌∷◌, ◌++◌, length, take, drop, refl, ap}
 use Rattle.std.specs.Prelude.{slice_get, slice_set, Some}
 
 module _ {X : Type 0} where
@@ -12,10 +12,6 @@ module _ {X : Type 0} where
   parts_set [] i x new e = absurd cc
   parts_set (y ∷ ys) zero x new e = refl
   parts_set (y ∷ ys) (suc i) x new e = ap (λ zs. y ∷ zs) (parts_set ys i x new e)
-
-  -- the one item that is not the same
-  pub only_there : (old new : List X) (i : ℕ) (x y : X) → slice_get old i ≡ Some x → slice_get new i ≡ Some y → take i new ≡ take i old → drop (suc i) new ≡ drop (suc i) old → new ≡ slice_set old i y
-  only_there old new i x y e f front behind = parts_at new i y f ∙ (λ j. front j ++ y ∷ behind j) ∙ sym (parts_set old i x y e)
 
   pub item_at : (xs ys : List X) (x : X) → slice_get (xs ++ x ∷ ys) (length xs) ≡ Some x
   item_at [] ys x = refl

@@ -23,7 +23,7 @@ use Rattle.gw_base.specs.NameLists.{is_in}
 use Rattle.gw_term.specs.declared.record.Termination.{Termination}
 use Rattle.gw_ctx.specs.Contexts.{ContextRecord}
 use Rattle.gw_board.specs.Carried.{BurstRequest, keys_of}
-use Rattle.gw_board.specs.Core.{Standing, Pending, Opened, Closed, Place, Core, pending, open_with, meets_at, meets_any, AreKeysOf, MayOpen, after_open}
+use Rattle.gw_board.specs.Core.{Standing, Pending, Opened, Closed, Place, Core, pending, open_with, meets_at, meets_any, MayOpen, after_open}
 use Rattle.gw_board.specs.Results.{is_open, NothingIsOpen}
 use Rattle.gw_board.specs.Waves.{is_pending, meets_pending, is_free, wave, MayOpenAll}
 use Rattle.gw_board.proofs.Outs.{SameKeys, apart_left, out-append, out-place, ApartAt, ApartFromOpen, clear_out, agree_clear, agree_turned, cut_more, cut_none, cut_alike}
@@ -209,28 +209,13 @@ module _ (s : Core) where
           (λ q. out-place front [] (new keys) q ∙ ap (λ b. has keys q || b) (ap (λ l. has (out l) q) (append-nil front)));
     }
 
-  -- what a place asks, and that its keys are those that it has with nothing out
-  pub record Unchanged (t : Core) (i : ℕ) : Type 0 where
-    pub requested : BurstRequest
-    pub stands : slice_get s.places i ≡ Some (pending requested)
-    pub keys : keys_of requested t.maps ≡ keys_of requested m
-
-  -- each may be opened, with the keys that it has with nothing out, once those before it in the list are
-  abbrev pub InTurn : Core → List ℕ → Type 0
-  InTurn t [] = Unit {0}
-  InTurn t (i ∷ later) = (u : Unchanged t i) × ((keys : List Key) → AreKeysOf u.requested t.maps keys → MayOpen t i u.requested keys × InTurn (after_open t i u.requested keys) later)
-
   by_place : (t : Core) (i : ℕ) (earlier front rest : List Place) (p : Place) (later : List ℕ) → is_open p.standing ≡ false → Reaches t i earlier front (p ∷ rest)
-      → ((u : Core) (fs : List Place) → Reaches u (i + 1) (earlier ++ p ∷ []) fs rest → InTurn u later)
-      → (x : Standing) → p.standing ≡ x → (b : Bool) → meets_pending (keys_of p.requested m) m earlier ≡ b → InTurn t (cond (is_pending x && not b) (i ∷ later) later)
+      → ((u : Core) (fs : List Place) → Reaches u (i + 1) (earlier ++ p ∷ []) fs rest → MayOpenAll u later)
+      → (x : Standing) → p.standing ≡ x → (b : Bool) → meets_pending (keys_of p.requested m) m earlier ≡ b → MayOpenAll t (cond (is_pending x && not b) (i ∷ later) later)
   by_place t i earlier front rest p later h r ih Pending e false f =
       let is : p ≡ pending p.requested = (λ k. record { requested = p.requested; standing = e k }) in
       let q : Reaches t i earlier front (pending p.requested ∷ rest) = subst (λ y. Reaches t i earlier front (y ∷ rest)) is r in (
-        record {
-          requested = p.requested;
-          stands = (λ k. slice_get (q.places k) (sym q.count k)) ∙ item_at earlier rest (pending p.requested);
-          keys = now t i earlier front rest p.requested q f;
-        },
+        p.requested,
         λ keys l.
             let n : Place = new t i earlier front rest p.requested q f keys in (
               may_open t i earlier front rest p.requested q f keys l,
@@ -242,22 +227,15 @@ module _ (s : Core) where
   by_place t i earlier front rest p later h r ih (Opened j) e b f = absurd (let clash : true ≡ false = ap (λ (x : Standing). is_open x) (sym e) ∙ h in cc)
   by_place t i earlier front rest p later h r ih (Closed reply) e b f = ih t (front ++ p ∷ []) (past t i earlier front rest p h r)
 
-  all_may : (rest earlier front : List Place) (i : ℕ) (t : Core) → list_any (λ p. is_open p.standing) rest ≡ false → Reaches t i earlier front rest → InTurn t (those i (length rest))
+  all_may : (rest earlier front : List Place) (i : ℕ) (t : Core) → list_any (λ p. is_open p.standing) rest ≡ false → Reaches t i earlier front rest → MayOpenAll t (those i (length rest))
   all_may [] earlier front i t h r = tt
   all_may (p ∷ ps) earlier front i t h r =
       let both = neither (is_open p.standing) (list_any (λ p. is_open p.standing) ps) h in
       let front_is : take i s.places ≡ earlier = (λ k. take (sym r.count k) (r.places k)) ∙ take-append_seam earlier (p ∷ ps) in
       let here : slice_get s.places i ≡ Some p = (λ k. slice_get (r.places k) (sym r.count k)) ∙ item_at earlier ps p in
       let later : List ℕ = those (i + 1) (length ps) in
-      subst (λ b. InTurn t (cond b (i ∷ later) later)) (λ k. is_free m (sym front_is k) (sym here k))
+      subst (λ b. MayOpenAll t (cond b (i ∷ later) later)) (λ k. is_free m (sym front_is k) (sym here k))
       (by_place t i earlier front ps p later both.0 r (λ u fs q. all_may ps (earlier ++ p ∷ []) fs (i + 1) u both.1 q) p.standing refl (meets_pending (keys_of p.requested m) m earlier) refl)
 
-pub wave_in_turn : (s : Core) → NothingIsOpen s → InTurn s s (wave s)
-wave_in_turn s h = all_may s s.places [] [] 0 s h (record { count = refl; count_front = refl; places = refl; places_now = refl; follow = tt; maps = sym (cut_none [] s.maps (λ q. refl)) })
-
 pub wave_may_open : (s : Core) → NothingIsOpen s → MayOpenAll s (wave s)
-wave_may_open s h = by (wave s) s (wave_in_turn s h)
-  where
-    by : (l : List ℕ) (t : Core) → InTurn s t l → MayOpenAll t l
-    by [] t g = tt
-    by (i ∷ later) t g = (g.0.requested, λ keys listed. let now = g.1 keys listed in (now.0, by later (after_open t i g.0.requested keys) now.1))
+wave_may_open s h = all_may s s.places [] [] 0 s h (record { count = refl; count_front = refl; places = refl; places_now = refl; follow = tt; maps = sym (cut_none [] s.maps (λ q. refl)) })

@@ -1,10 +1,6 @@
 -- Places that are executed one after another (own): the first that is not closed, and what stays.
 use Rattle.std.specs.Prelude.{◌≡◌, ℕ, Bool, true, false, not, List, take, drop, slice_get, Option, None, Some}
-use Rattle.gw_base.specs.declared.key.Key.TheVariants.{Whole}
-use Rattle.gw_base.specs.Keys.{has}
-use Rattle.gw_table.specs.Maps.{Maps}
 use Rattle.gw_board.specs.Boards.{is_closed, AllClosed}
-use Rattle.gw_board.specs.Carried.{keys_of}
 use Rattle.gw_board.specs.Core.{Place}
 
 -- there is a place, and it is not closed
@@ -21,10 +17,6 @@ pub record IsFirstUnclosed (places : List Place) (i : ℕ) : Type 0 where
 abbrev pub FindsFirst : List Place → Option ℕ → Type 0
 FindsFirst places None = AllClosed places
 FindsFirst places (Some i) = IsFirstUnclosed places i
-
--- the request there is whole-table, whatever the tables are
-abbrev pub IsWholeTable : Place → Type 0
-IsWholeTable p = (m : Maps) → has (keys_of p.requested m) Whole ≡ true
 
 -- the places before the first and from the end on are the same
 pub record AreSameBeside (first end : ℕ) (before after : List Place) : Type 0 where

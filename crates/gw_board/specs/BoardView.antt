@@ -11,7 +11,6 @@ use Rattle.gw_board.specs.Carried.{carried}
 use Rattle.gw_board.specs.Fitting.{Each, out, FitsTogether}
 use Rattle.gw_board.specs.Core.{Place}
 use Rattle.gw_board.specs.UndoLog.{UndoStep, is_logged, undone}
-use Rattle.gw_board.specs.Candidates.{AreCandidates}
 use Rattle.gw_board.specs.Results.{carried_on, slots_of}
 use Rattle.gw_board.specs.BoardEntries.{place_of}
 
@@ -60,5 +59,4 @@ pub record IsBoard (a : Inside) : Type 0 where
   pub on_the_way : IsOnTheWay (value_of a)
   pub kept : IsKeptIn a.tables (value_of a)
   pub room : HasRoom a
-  pub candidates : AreCandidates (map place_of a.board_entries.items) a.candidates
   pub spare : a.sweeps_all ≡ false → NoneIsSpare a.start.value a.tables a.undo_log.items (map place_of a.board_entries.items)

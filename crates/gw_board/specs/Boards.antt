@@ -40,6 +40,12 @@ begun_board profile requested s = record { profile = profile; start = s; maps = 
 abbrev pub GivesTheFold : Seen → Type 0
 GivesTheFold b = result_of b.profile (core_of b) ≡ carried b.profile (requested_in b.places) (maps_of b.start)
 
+-- the burst is the same, and so are the tables of its start
+pub record IsSameBurst (b c : Seen) : Type 0 where
+  pub profile : c.profile ≡ b.profile
+  pub start : c.start ≡ b.start
+  pub requested : requested_in c.places ≡ requested_in b.places
+
 -- ---- jobs
 
 -- a job as it is handed out: its place, its request, its keys, and the part that has their entries

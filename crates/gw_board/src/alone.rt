@@ -1,12 +1,11 @@
 //! Executing places one after another, on the tables where they lie.
 
-ghost use Rattle.std.specs.Prelude.{◌≡◌, ◌+◌, ◌<◌, ◌≤◌, true, map, take, drop, vec_len, IfSome, OnErr, OnOk, slice_get};
+ghost use Rattle.std.specs.Prelude.{◌≡◌, ◌+◌, ◌<◌, ◌≤◌, true, map, take, drop, vec_len, IfSome, OnErr, OnOk, length, slice_get};
 ghost use Rattle.gw_table.specs.Parts.{Over, start_of};
 ghost use Rattle.gw_table.specs.Stored.{Stored};
 ghost use Rattle.gw_board.specs.Alone.{AreSameBeside, FindsFirst};
 ghost use Rattle.gw_board.specs.GoingOn.{MayGoOn};
-ghost use Rattle.gw_board.specs.Boards.{requested_in, begun_board, core_of, is_closed, is_pending_at, AllClosed, GivesTheFold, unclosed};
-ghost use Rattle.gw_board.specs.OpenJobs.{IsSameBurst};
+ghost use Rattle.gw_board.specs.Boards.{requested_in, begun_board, core_of, is_closed, is_pending_at, AllClosed, GivesTheFold, IsSameBurst, unclosed};
 ghost use Rattle.gw_board.specs.Results.{NothingIsOpen};
 ghost use Rattle.gw_board.specs.Met.{PendsAt};
 ghost use Rattle.gw_board.specs.BoardEntries.{standing_of, place_of};
@@ -16,14 +15,16 @@ use crate::board_entry::{BoardEntry, Stage, all_pending, set_stage};
 use crate::profile::Profile;
 use crate::reply::carry_on;
 use crate::requested::Task;
+use crate::side_by_side::{carry_stretch, end_of_stretch};
 use crate::undo_log::put_all_back;
 use crate::undo_step::UndoStep;
 use gw_base::{Items, NoMemory};
-use gw_draw::{Gate, OpenGate};
+use gw_draw::{Gate, Workers};
 use gw_table::{Draft, Tables};
 use std::alloc::Global;
 use std::mem;
 use std::ops::Range;
+use std::thread::Threads;
 
 fn is_closed(board_entry: &BoardEntry<'_, '_, '_>) -> bool
     ensures { result ≡ is_closed (standing_of board_entry.now.stage) }
@@ -52,7 +53,7 @@ pub(crate) fn pending_at<'b, 'h, 'a>(
 /// # Errors
 ///
 /// Out of memory. Some places may be closed then, and nothing is known of the draft but its keys.
-fn carry_each<G: Gate>(
+pub(crate) fn carry_each<G: Gate>(
     alloc: Global,
     profile: &Profile,
     board_entries: &mut Vec<BoardEntry<'_, '_, '_>>,
@@ -83,6 +84,39 @@ fn carry_each<G: Gate>(
     Ok(())
 }
 
+/// Executes what is pending of a range of places, stretch by stretch, as `carry_each` does one after another.
+fn carry_range<R: Threads + Sync, G: Gate>(
+    workers: &Workers<'_, R, G>,
+    alloc: Global,
+    profile: &Profile,
+    board_entries: &mut Vec<BoardEntry<'_, '_, '_>>,
+    places: Range<usize>,
+    draft: &mut Draft,
+) -> Result<(), NoMemory>
+    requires inside { places.end ≤ vec_len board_entries.old }
+    requires range { places.start ≤ places.end }
+    requires over { draft.old.keys ≡ Over (start_of draft.old.keys) }
+    requires goes_on { (start : Stored) × MayGoOn profile.now start draft.old.maps (map place_of board_entries.old.items) }
+    requires first { AllClosed (take places.start (map place_of board_entries.old.items)) }
+    ensures goes_on { OnOk result ((start : Stored) → MayGoOn profile.now start draft.old.maps (map place_of board_entries.old.items) → MayGoOn profile.now start draft.new.maps (map place_of board_entries.new.items)) }
+    ensures closed { OnOk result (AllClosed (take places.end (map place_of board_entries.new.items))) }
+    ensures beside { OnOk result (AreSameBeside places.start places.end (map place_of board_entries.old.items) (map place_of board_entries.new.items)) }
+    ensures requested { requested_in (map place_of board_entries.new.items) ≡ requested_in (map place_of board_entries.old.items) }
+    ensures len { vec_len board_entries.new ≡ vec_len board_entries.old }
+    ensures keys { draft.new.keys ≡ draft.old.keys }
+{
+    if workers.count == 1 {
+        return carry_each(alloc, profile, board_entries, places, draft, workers.gate);
+    }
+    let mut first = places.start;
+    while first < places.end {
+        let end = end_of_stretch(board_entries, first..places.end);
+        carry_stretch(workers, alloc, profile, board_entries, first..end, draft)?;
+        first = end;
+    }
+    Ok(())
+}
+
 impl Board<'_, '_, '_> {
     /// The first place that is not closed. The caller knows that those before the place `from` are closed, which are
     /// not looked at. While nothing is open, the place that is found is pending.
@@ -106,16 +140,17 @@ impl Board<'_, '_, '_> {
     /// # Errors
     ///
     /// Out of memory. The board is as it was when it was made: every place is pending.
-    fn carry_places<G: Gate>(
+    fn carry_places<R: Threads + Sync, G: Gate>(
         &mut self,
         alloc: Global,
         places: Range<usize>,
-        gate: &G,
+        workers: &Workers<'_, R, G>,
     ) -> Result<(), NoMemory>
         requires open { NothingIsOpen (core_of self.old) }
         requires first { AllClosed (take places.start self.old.places) }
         requires pends { is_pending_at (slice_get self.old.places places.start) ≡ true }
         requires range { places.start < places.end }
+        requires inside { places.end ≤ length self.old.places }
         ensures none { NothingIsOpen (core_of self.new) }
         ensures closed { OnOk result (AllClosed (take places.end self.new.places)) }
         ensures left { OnOk result (unclosed self.new.places ≡ unclosed (drop places.end self.old.places)) }
@@ -125,60 +160,39 @@ impl Board<'_, '_, '_> {
     {
         let tables = mem::replace(&mut self.tables, Tables::new(alloc));
         let mut draft = Draft::of_tables(alloc, tables);
-        let Ok(()) = carry_each(
+        let Ok(()) = carry_range(
+            workers,
             alloc,
             &self.profile,
             &mut self.board_entries,
-            places.start..places.end,
+            places,
             &mut draft,
-            gate,
         ) else {
             self.tables = draft.undone();
-            self.candidates.forget();
             put_all_back(&mut self.tables, &mut self.undo_log);
             all_pending(&mut self.board_entries);
             return Err(NoMemory);
         };
         let (tables, found) = draft.into_tables();
         self.tables = tables;
-        self.candidates.release_all(&self.board_entries, places);
         self.undo_log.push_reserved(UndoStep::of_writes(found));
         Ok(())
     }
 
-    /// Executes the first place that is not closed, on the tables where they lie, and closes it with its reply: what
-    /// opening the place, executing its job and closing it with the result come to. No footprint is gathered, and no
-    /// entry is taken out: what stood where the commands write goes to the undo log, once for each key. So the work is
-    /// that of the commands. The caller knows that nothing is open, that all earlier places are closed, and that this
-    /// one is pending.
+    /// Executes all that is pending, on one draft of the tables where they lie. One worker executes one place after
+    /// another, and passes the gate with the number 0 before each. Several go stretch by stretch, up to the next request
+    /// that is whole-table: chains of requests that share no key are executed side by side, each by one worker, who
+    /// passes the gate with the chain's number; a stretch that is one chain is executed as by one worker. What stood
+    /// where the commands write goes to the undo log, once for each key. The caller knows that nothing is open.
     ///
     /// # Errors
     ///
     /// Out of memory. The board is as it was when it was made: every place is pending.
-    pub fn carry_alone(&mut self, alloc: Global, place: usize) -> Result<(), NoMemory>
-        requires open { NothingIsOpen (core_of self.old) }
-        requires first { AllClosed (take place self.old.places) }
-        requires pends { is_pending_at (slice_get self.old.places place) ≡ true }
-        ensures none { NothingIsOpen (core_of self.new) }
-        ensures closed { OnOk result (AllClosed (take (place + 1) self.new.places)) }
-        ensures left { OnOk result (unclosed self.new.places + 1 ≡ unclosed self.old.places) }
-        ensures same { IsSameBurst self.old self.new }
-        ensures outcome { GivesTheFold self.new }
-        ensures err { OnErr result (self.new ≡ begun_board self.old.profile (requested_in self.old.places) self.old.start) }
-    {
-        // No effect at run time. The proof reads here that there are fewer places than a `usize` can count.
-        let _ = &self.board_entries;
-        self.carry_places(alloc, place..place + 1, &OpenGate)
-    }
-
-    /// Executes all that is pending, one place after another, as `carry_alone` does each of them; the gate is passed
-    /// with the number 0 before each. The tables are moved into a draft once for all. The caller knows that nothing
-    /// is open.
-    ///
-    /// # Errors
-    ///
-    /// Out of memory. The board is as it was when it was made: every place is pending.
-    pub fn carry_rest<G: Gate>(&mut self, alloc: Global, gate: &G) -> Result<(), NoMemory>
+    pub fn carry_rest<R: Threads + Sync, G: Gate>(
+        &mut self,
+        alloc: Global,
+        workers: &Workers<'_, R, G>,
+    ) -> Result<(), NoMemory>
         requires open { NothingIsOpen (core_of self.old) }
         ensures none { NothingIsOpen (core_of self.new) }
         ensures closed { OnOk result (AllClosed self.new.places) }
@@ -188,7 +202,7 @@ impl Board<'_, '_, '_> {
     {
         let end = self.board_entries.len();
         match self.first_unclosed(0) {
-            Some(first) => self.carry_places(alloc, first..end, gate),
+            Some(first) => self.carry_places(alloc, first..end, workers),
             None => Ok(()),
         }
     }

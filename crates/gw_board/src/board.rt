@@ -9,7 +9,6 @@ ghost use Rattle.gw_board.specs.Refused.{HandsBack};
 ghost use Rattle.gw_board.specs.Results.{slots_of};
 
 use crate::board_entry::{BoardEntry, board_entries_of};
-use crate::candidates::Candidates;
 use crate::fault::BoardFault;
 use crate::profile::Profile;
 use crate::requested::BurstRequest;
@@ -28,7 +27,6 @@ pub struct Board<'b, 'h, 'a> {
     pub(crate) tables: Tables,
     pub(crate) profile: Profile,
     pub(crate) board_entries: Vec<BoardEntry<'b, 'h, 'a>>,
-    pub(crate) candidates: Candidates,
     /// Keys may be prepared that are neither those of the undo log nor of open jobs.
     pub(crate) sweeps_all: bool,
     pub(crate) undo_log: Vec<UndoStep>,
@@ -88,7 +86,6 @@ impl<'b, 'h, 'a> Board<'b, 'h, 'a> {
             tables,
             profile,
             board_entries,
-            candidates: Candidates::new(alloc),
             sweeps_all: false,
             undo_log,
             replies,

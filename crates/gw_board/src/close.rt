@@ -69,7 +69,6 @@ impl<'b, 'h, 'a> Board<'b, 'h, 'a> {
         } = job;
         self.tables.put_back(back);
         self.sweeps_all = true;
-        self.candidates.forget();
         set_stage(&mut self.board_entries, place, Stage::Pending);
     }
 
@@ -101,7 +100,6 @@ impl<'b, 'h, 'a> Board<'b, 'h, 'a> {
             mut tables,
             profile: _,
             board_entries: _,
-            candidates: _,
             sweeps_all: _,
             mut undo_log,
             replies: _,
@@ -127,7 +125,6 @@ impl<'b, 'h, 'a> Board<'b, 'h, 'a> {
             mut tables,
             profile: _,
             board_entries,
-            candidates: _,
             sweeps_all,
             undo_log,
             mut replies,

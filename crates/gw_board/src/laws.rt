@@ -13,11 +13,10 @@ ghost use Rattle.gw_board.specs.Carried.{BurstRequest, keys_of, carried};
 ghost use Rattle.gw_board.specs.Core.{Core, Job, Event, Events, MayDraw, start, pending, undrawn_at};
 ghost use Rattle.gw_board.specs.Endings.{all_ended};
 ghost use Rattle.gw_board.specs.Fitting.{FitsTogether};
-ghost use Rattle.gw_board.specs.Groups.{Grouped, requests_of, AreGroups, GoesByGroups};
+ghost use Rattle.gw_board.specs.Chains.{Chained, requests_of, AreChains, GoesByChains};
 ghost use Rattle.gw_board.specs.UndoLog.{undo_log_of, undone};
 ghost use Rattle.gw_board.specs.Met.{IsRefused};
-ghost use Rattle.gw_board.specs.Planned.{IsPlan, MayOpenEach, MayOpenInTurn, MayOpenWith};
-ghost use Rattle.gw_board.specs.declared.planned.Planned.{Planned};
+ghost use Rattle.gw_board.specs.Planned.{MayOpenEach};
 ghost use Rattle.gw_board.specs.declared.fault.OpenFault.{OpenFault};
 ghost use Rattle.gw_board.specs.declared.fault.OpenFault.TheVariants.{NoMemory};
 ghost use Rattle.gw_board.specs.Results.{is_open_at, NothingIsOpen, AreClosed, carried_on, result_of, slots_of};
@@ -76,17 +75,9 @@ pub fn planned_places_are_opened()
     ensures refused { (b : Seen) (i : ℕ) (later : List ℕ) (fault : OpenFault) → MayOpenEach b (i ∷ later) → IsRefused b i fault → fault ≡ NoMemory }
 {}
 
-/// While nothing is open on a board, the places of its plan may be opened one after another, each with the keys that
-/// it has there: so may the first, with its keys, and once it is open those behind it.
-pub fn planned_keys_stay()
-    ensures wave { (b : Seen) (planned : List Planned) → NothingIsOpen (core_of b) → IsPlan b planned → MayOpenInTurn b planned }
-    ensures first { (b : Seen) (p : Planned) (later : List Planned) → MayOpenInTurn b (p ∷ later) → MayOpenWith b p.place p.keys }
-    ensures next { (b c : Seen) (p : Planned) (later : List Planned) (h : Handed) → MayOpenInTurn b (p ∷ later) → Opens b p.place h c → h.keys ≡ p.keys → MayOpenInTurn c later }
-{}
-
-/// Requests in well-formed tables whose slots are distinct and unused, in groups no two of which share a key: executed
-/// one after another, they do what each group does by itself on the part that has its keys, whatever the groups' order;
-/// entries at no group's keys stay.
-pub fn groups_go_side_by_side()
-    ensures { (profile : Profile) (keys : ℕ → List Key) (m : Maps) (xs : List Grouped) → AreWellFormed profile.rules.members m → AreUnused m [] (slots_of (requests_of xs)) → AreGroups keys m xs → GoesByGroups profile keys m xs }
+/// Requests in well-formed tables whose slots are distinct and unused, in chains no two of which share a key: executed
+/// one after another, they do what each chain does by itself on the part that has its keys, whatever the chains' order;
+/// entries at no chain's keys stay.
+pub fn chains_go_side_by_side()
+    ensures { (profile : Profile) (keys : ℕ → List Key) (m : Maps) (xs : List Chained) → AreWellFormed profile.rules.members m → AreUnused m [] (slots_of (requests_of xs)) → AreChains keys m xs → GoesByChains profile keys m xs }
 {}

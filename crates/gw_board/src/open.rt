@@ -10,16 +10,13 @@ ghost use Rattle.gw_board.specs.Boards.{core_of, GivesTheFold, Opens};
 ghost use Rattle.gw_board.specs.Carried.{keys_of};
 ghost use Rattle.gw_board.specs.Core.{pending, meets_at, MayOpen};
 ghost use Rattle.gw_board.specs.Met.{FindsFirstMet, IsRefused, PendsAt};
-ghost use Rattle.gw_board.specs.Planned.{MayOpenInTurn, MayOpenWith};
 ghost use Rattle.gw_board.specs.BoardEntries.{standing_of, place_of};
-ghost use Rattle.gw_board.specs.declared.planned.Planned.{Planned as APlanned};
 
 use crate::alone::pending_at;
 use crate::board::Board;
 use crate::board_entry::{BoardEntry, Stage, set_stage};
 use crate::fault::OpenFault;
 use crate::job::Job;
-use crate::planned::Planned;
 use crate::requested::Task;
 use bumpalo::Bump;
 use gw_base::{Key, NoMemory};
@@ -146,7 +143,6 @@ impl<'b, 'h, 'a> Board<'b, 'h, 'a> {
     ) -> Result<Job<'b, 'h, 'a>, NoMemory>
         requires { MayOpen (core_of self.old) place task keys }
         ensures job { IfOk result (λ job. Opens self.old place job self.new) }
-        ensures keys { IfOk result (λ job. job.keys ≡ keys) }
         ensures outcome { OnOk result (GivesTheFold self.new) }
         ensures err { OnErr result (self.new ≡ self.old) }
     {
@@ -167,7 +163,6 @@ impl<'b, 'h, 'a> Board<'b, 'h, 'a> {
                 part: visible,
             },
         );
-        self.candidates.release(&self.board_entries, place);
         Ok(Job {
             place,
             profile,
@@ -195,31 +190,5 @@ impl<'b, 'h, 'a> Board<'b, 'h, 'a> {
         };
         let keys = self.free_keys(alloc, place, &task)?;
         Ok(self.hand_out(alloc, place, task, keys)?)
-    }
-
-    /// Opens a place as it was planned. The caller knows that it may be opened with the keys that it has there, as
-    /// those of `plan_next` may while nothing else is open, one after another. No other place is looked at, and the
-    /// tables only at these keys. Room is made as by `open`.
-    ///
-    /// # Errors
-    ///
-    /// Out of memory. The board is as it was.
-    pub(crate) fn open_planned(
-        &mut self,
-        alloc: Global,
-        planned: Planned,
-    ) -> Result<Job<'b, 'h, 'a>, NoMemory>
-        requires { MayOpenWith self.old planned.place planned.keys }
-        ensures job { IfOk result (λ job. Opens self.old planned.place job self.new) }
-        ensures keys { IfOk result (λ job. job.keys ≡ planned.keys) }
-        ensures next { (later : List APlanned) → MayOpenInTurn self.old (planned ∷ later) → OnOk result (MayOpenInTurn self.new later) }
-        ensures outcome { OnOk result (GivesTheFold self.new) }
-        ensures err { OnErr result (self.new ≡ self.old) }
-    {
-        let Planned { place, keys } = planned;
-        let Some(task) = self.pending_task(place) else {
-            unreachable!()
-        };
-        self.hand_out(alloc, place, task, keys)
     }
 }

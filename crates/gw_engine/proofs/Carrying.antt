@@ -1,23 +1,18 @@
 -- What a board comes to is what the phases say: the transactions one after another, and the texts of their replies.
-use Rattle.std.proofs.Common.{◌≡◌, ℕ, ◌+◌, ◌<◌, false, not, List, [], ◌∷◌, ◌++◌, map, length, drop, get_or, Result, Ok, Err, IfOk, refl, sym, ap, ◌∙◌, append_assoc, arith}
-use Rattle.std.specs.Prelude.{◌||◌, OnOk, OnErr}
+use Rattle.std.proofs.Common.{◌≡◌, ℕ, ◌+◌, ◌<◌, false, List, [], ◌∷◌, ◌++◌, map, length, drop, get_or, Result, Ok, Err, IfOk, refl, sym, ap, ◌∙◌, append_assoc, arith}
+use Rattle.std.specs.Prelude.{OnOk}
 use Rattle.std.specs.List.{list_any}
-use Rattle.gw_base.proofs.Booleans.{neither}
 use Rattle.gw_base.specs.declared.command_words.Rules.{Rules}
-use Rattle.gw_board.specs.Boards.{Seen, Handed, core_of, requested_in, begun_board, outcome_of, is_closed, AllClosed}
+use Rattle.gw_board.specs.Boards.{Seen, core_of, requested_in, begun_board, IsSameBurst}
 use Rattle.gw_board.specs.Carried as board
-use Rattle.gw_board.specs.Core.{Standing, Pending, Opened, Closed, Place, pending}
-use Rattle.gw_board.specs.Jobs.{new_part}
-use Rattle.gw_board.specs.OpenJobs.{IsAnswer, IsSameBurst}
+use Rattle.gw_board.specs.Core.{Place, pending}
 use Rattle.gw_board.specs.Results.{is_open, NothingIsOpen, slots_of}
 use Rattle.gw_board.specs.Texts.{Text}
 use Rattle.gw_board.specs.declared.requested.BurstRequest.{BurstRequest}
 use Rattle.gw_board.specs.declared.profile.Profile.{Profile}
-use Rattle.gw_board.proofs.WaveJobs.{Reply}
 use Rattle.gw_kept.specs.declared.entry.Entry.{Entry}
 use Rattle.gw_reserve.specs.Owned.{paired}
 use Rattle.gw_table.proofs.Folding.{rest_of}
-use Rattle.gw_table.specs.Parts.{Parted}
 use Rattle.gw_table.specs.Maps.{Maps}
 use Rattle.gw_table.specs.Stored.{Stored, maps_of}
 use Rattle.gw_table.specs.Unused.{owned, AreUnused}
@@ -72,12 +67,6 @@ one_text jobs n j t texts rest e entries more h is split pair pushed =
     ∙ ap (λ (x : Entry). entries ++ x ∷ entries_with (drop (n + 1) jobs) rest) pair
     ∙ (λ i. entries ++ entries_with (sym (rest_of jobs n j j h is) i) (sym split i))
 
--- ---- what is answered on a job
-
-pub both_parts : (h : Handed) (r : Reply) → IfOk r (λ (n : Parted × Text). n.0 ≡ new_part h) → IfOk r (λ (n : Parted × Text). n.1 ≡ (outcome_of h).answer) → IsAnswer h r
-both_parts h (Ok n) p q = record { part = p; reply = q }
-both_parts h (Err e) p q = tt
-
 -- ---- a board from its start to its end
 
 pending_shut : (jobs : List BurstRequest) → list_any (λ (p : Place). is_open p.standing) (map pending jobs) ≡ false
@@ -92,21 +81,6 @@ pub length_carried : (profile : Profile) (jobs : List BurstRequest) (m : Maps) �
 length_carried profile [] m = refl
 length_carried profile (j ∷ more) m = let rest : length (board.carried profile more (board.done profile j m).maps).answer ≡ length more = length_carried profile more (board.done profile j m).maps in omega (arith, rest)
 
-shut_if_closed : (x : Standing) → not (is_closed x) ≡ false → is_open x ≡ false
-shut_if_closed Pending h = refl
-shut_if_closed (Opened j) h = absurd cc
-shut_if_closed (Closed reply) h = refl
-
-closed_shut : (places : List Place) → AllClosed places → list_any (λ (p : Place). is_open p.standing) places ≡ false
-closed_shut [] h = refl
-closed_shut (p ∷ ps) h =
-    let both = neither (not (is_closed p.standing)) (list_any (λ (q : Place). not (is_closed q.standing)) ps) h in
-    (λ i. shut_if_closed p.standing both.0 i || closed_shut ps both.1 i)
-
--- where every place is closed nothing is open
-pub none_open : (b : Seen) → AllClosed b.places → NothingIsOpen (core_of b)
-none_open b h = closed_shut b.places h
-
 module _ (profile : Profile) (jobs : List BurstRequest) (s : Stored) (b : Seen) (begun : b ≡ begun_board profile jobs s) where
   pub none_yet : NothingIsOpen (core_of b)
   none_yet = ap (λ (x : Seen). list_any (λ (p : Place). is_open p.standing) x.places) begun ∙ pending_shut jobs
@@ -118,10 +92,6 @@ module _ (profile : Profile) (jobs : List BurstRequest) (s : Stored) (b : Seen) 
       let requested : requested_in d.places ≡ jobs = same.requested ∙ ap (λ (x : Seen). requested_in x.places) begun ∙ asked_pending jobs in
       let start : d.start ≡ s = same.start ∙ ap (λ (x : Seen). x.start) begun in
       λ i. board.carried (manners i) (requested i) (maps_of (start i))
-
-pub on_err : {T E P : Type 0} (r : Result T E) → P → OnErr r P
-on_err (Ok x) p = tt
-on_err (Err e) p = p
 
 pub ok_with : {T E Q : Type 0} {P R : T → Type 0} (r : Result T E) → IfOk r P → OnOk r Q → ((x : T) → P x → Q → R x) → IfOk r R
 ok_with (Ok x) p q f = f x p q

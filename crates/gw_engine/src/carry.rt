@@ -1,9 +1,7 @@
-//! Executing the new requests of a burst: by one worker one after another, by several in waves.
+//! Executing the new requests of a burst: by one worker one after another, by several in chains side by side.
 
-ghost use Rattle.std.specs.Prelude.{◌≡◌, [], map, take, IfOk, IfErr, OnOk, OnErr, length, vec_capacity, ◌<◌, ◌≤◌, ◌+◌};
-ghost use Rattle.gw_board.specs.Alone.{IsFirstUnclosed};
-ghost use Rattle.gw_board.specs.Boards.{core_of, AllClosed, unclosed};
-ghost use Rattle.gw_board.specs.OpenJobs.{IsSameBurst};
+ghost use Rattle.std.specs.Prelude.{◌≡◌, [], map, IfOk, IfErr, OnOk, length, vec_capacity, ◌≤◌};
+ghost use Rattle.gw_board.specs.Boards.{core_of, AllClosed, IsSameBurst};
 ghost use Rattle.gw_board.specs.Results.{NothingIsOpen, slots_of};
 ghost use Rattle.gw_table.specs.Stored.{maps_of, AreSwept, NoneIsOut};
 ghost use Rattle.gw_table.specs.Unused.{AreUnused};
@@ -14,11 +12,9 @@ ghost use Rattle.gw_engine.specs.Replies.{board_texts, entries_with};
 use crate::answers::answers;
 use crate::datagram::Datagram;
 use crate::items::BurstItem;
-use crate::wave::answers_to;
-use crate::workers::Workers;
 use gw_base::{Items, NoMemory};
 use gw_board::{Board, BoardFault, BurstRequest, Profile};
-use gw_draw::Gate;
+use gw_draw::{Gate, Workers};
 use gw_kept::{Entry, Kept};
 use gw_table::Tables;
 use std::alloc::Global;
@@ -33,69 +29,13 @@ pub(crate) struct Done {
     pub(crate) answers: Items<Datagram>,
 }
 
-/// Executes the next wave: all that may be executed side by side. A request that is a wave by itself is executed as by
-/// one worker, without a job. The caller knows that nothing is open, and which place is the first that is not closed.
-/// Answers up to which place all are closed, as far as is known.
+/// Executes what is pending on the board, and writes the answers. The caller knows that nothing is open, and nothing is
+/// open then. One worker executes one request after another; several go stretch by stretch, up to the next request that
+/// is whole-table, and execute chains of requests that share no key side by side.
 ///
 /// # Errors
 ///
-/// Out of memory. Nothing is open then.
-fn carry_wave<R: Threads + Sync, G: Gate>(
-    workers: &Workers<'_, R, G>,
-    alloc: Global,
-    board: &mut Board<'_, '_, '_>,
-    first: usize,
-) -> Result<usize, NoMemory>
-    requires none { NothingIsOpen (core_of board.old) }
-    requires first { IsFirstUnclosed board.old.places first }
-    ensures none { NothingIsOpen (core_of board.new) }
-    ensures closed { IfOk result (λ closed. AllClosed (take closed board.new.places)) }
-    ensures fewer { OnOk result (unclosed board.new.places < unclosed board.old.places) }
-    ensures same { IsSameBurst board.old board.new }
-{
-    let Some(wave) = board.plan_next(alloc, first)? else {
-        workers.gate.pass(0);
-        board.carry_alone(alloc, first)?;
-        return Ok(first);
-    };
-    let jobs = board.open_wave(alloc, wave)?;
-    let Ok(answers) = answers_to(workers, alloc, &jobs) else {
-        board.close_unchanged(jobs);
-        return Err(NoMemory);
-    };
-    board.close_wave(jobs, answers)?;
-    Ok(0)
-}
-
-/// Executes what is pending on the board. One worker executes each request by itself, in order of arrival, and passes
-/// the gate with the number 0. Several go wave after wave, but a request that is a wave by itself, as one that is
-/// whole-table or the last that is pending, is executed in that way, too. The caller knows that nothing is open. There
-/// are at most as many waves as requests.
-///
-/// # Errors
-///
-/// Out of memory. Nothing is open then.
-fn carry_all<R: Threads + Sync, G: Gate>(
-    workers: &Workers<'_, R, G>,
-    alloc: Global,
-    board: &mut Board<'_, '_, '_>,
-) -> Result<(), NoMemory>
-    requires { NothingIsOpen (core_of board.old) }
-    ensures ok { OnOk result (AllClosed board.new.places) }
-    ensures err { OnErr result (NothingIsOpen (core_of board.new)) }
-    ensures same { IsSameBurst board.old board.new }
-{
-    if workers.count == 1 {
-        return board.carry_rest(alloc, workers.gate);
-    }
-    let mut closed = 0;
-    while let Some(place) = board.first_unclosed(closed) {
-        closed = carry_wave(workers, alloc, board, place)?;
-    }
-    Ok(())
-}
-
-/// Executes what is pending on the board, and writes the answers.
+/// Out of memory.
 fn answered<R: Threads + Sync, G: Gate>(
     workers: &Workers<'_, R, G>,
     alloc: Global,
@@ -107,10 +47,10 @@ fn answered<R: Threads + Sync, G: Gate>(
     requires { NothingIsOpen (core_of board.old) }
     ensures closed { OnOk result (AllClosed board.new.places) }
     ensures answers { IfOk result (λ answers. answers ≡ answers_of profile.now.mid kept.now (board_texts board.new) items.now) }
-    ensures err { OnErr result (NothingIsOpen (core_of board.new)) }
+    ensures none { NothingIsOpen (core_of board.new) }
     ensures same { IsSameBurst board.old board.new }
 {
-    carry_all(workers, alloc, board)?;
+    board.carry_rest(alloc, workers)?;
     answers(workers, alloc, &profile.mid, kept, board, items)
 }
 

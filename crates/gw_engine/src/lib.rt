@@ -17,17 +17,14 @@ mod reading;
 mod reserve;
 mod run;
 mod usage;
-mod wave;
-mod workers;
 
 pub use counts::BurstCounts;
 pub use datagram::Datagram;
 pub use fault::{ConfigFault, LimitName};
 pub use gateway::Gateway;
 pub use gw_base::Config;
-pub use gw_draw::{Gate, OpenGate};
+pub use gw_draw::{Gate, OpenGate, Workers};
 pub use laws::{answers_are_read_as_messages, bursts_go_in_phases};
 pub use octets::Octets;
 pub use run::BurstAnswers;
 pub use usage::Usage;
-pub use workers::Workers;

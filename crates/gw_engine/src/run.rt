@@ -18,10 +18,9 @@ use crate::datagram::Datagram;
 use crate::gateway::Gateway;
 use crate::items::{BurstItem, items_of, turns_of};
 use crate::reading::{ReadDatagram, arena_for, keeps_trees, read_burst};
-use crate::workers::Workers;
 use gw_base::{Items, NoMemory};
 use gw_board::{BurstRequest, Profile};
-use gw_draw::Gate;
+use gw_draw::{Gate, Workers};
 use gw_kept::Turn;
 use gw_reserve::Cursors;
 use gw_table::Tables;
@@ -143,18 +142,20 @@ impl Gateway {
     /// it answers, and is a message of the grammar. The burst may have any number of datagrams, each of any length.
     ///
     /// With one worker each request is executed by itself, in order of arrival, and passes the gate with number 0.
-    /// With more, requests are executed in waves, each of them all whose footprints meet no earlier one's that waits;
-    /// one that is whole-table is a wave by itself. The tables are not copied: a request changes them in place, or, in
-    /// a wave, in a copy of the entries that it may claim, which leave the tables for that time; and the undo log is
-    /// kept until the burst is over.
+    /// With more, they go stretch by stretch: a stretch ends before the next request that is whole-table, which is one
+    /// by itself. Requests of a stretch that share a key, directly or by others, are a chain. The chains are executed
+    /// side by side, the requests of each in order. The tables are not copied: a request changes them in place, or,
+    /// where a stretch has several chains, a copy of the entries at the chain's keys, which goes into the tables once
+    /// all of them are executed; and the undo log is kept until the burst is over.
     ///
-    /// The requests of a wave are executed by so many workers, 1 to 64, in threads; the caller is one of them and
-    /// waits for the others. Each draws the next request until none is left, and passes the gate just before it, with
-    /// the request's number within its wave, from 0. A wave has as many workers as requests at most, and with one no
-    /// thread is started. Answers and state are the same for every number of workers, however they are scheduled. A
-    /// worker that cannot be started is no fault. A `pass` that never returns holds up the call. Answers are written by
-    /// workers too where replies have more than 1,048,576 bytes; there they pass no gate. The lists of what is read lie
-    /// in an arena, which is freed when the burst is over, so a burst is read by the caller alone.
+    /// The chains of a stretch are executed by so many workers, 1 to 64, in threads; the caller is one of them and
+    /// waits for the others. Each draws the next chain until none is left, and passes the gate just before it, with
+    /// the chain's number within its stretch, from 0. A stretch has as many workers as chains at most; where it is one
+    /// chain, it is executed as by one worker, and no thread is started. Answers and state are the same for every
+    /// number of workers, however they are scheduled. A worker that cannot be started is no fault. A `pass` that never
+    /// returns holds up the call. Answers are written by workers too where replies have more than 1,048,576 bytes; there
+    /// they pass no gate. The lists of what is read lie in an arena, which is freed when the burst is over, so a burst
+    /// is read by the caller alone.
     ///
     /// Once the trees of what is read take more than 16,777,216 bytes, those of later datagrams are not kept: each of
     /// their requests is read when the burst comes in, once more for what it owns and once more to be executed, and one

@@ -9,8 +9,6 @@ use Rattle.gw_board.specs.BoardView.{value_of, IsOnTheWay, IsKeptIn, NoneIsSpare
 use Rattle.gw_board.specs.Boards.{Seen, requested_in, begun_board, core_of, is_pending_at, AllClosed, unclosed}
 use Rattle.gw_board.specs.Carried.{BurstRequest}
 use Rattle.gw_board.specs.Core.{Place, pending}
-use Rattle.gw_board.specs.Candidates.{AreCandidates}
-use Rattle.gw_board.specs.declared.board_entry.BoardEntry.{BoardEntry}
 use Rattle.gw_board.specs.Fitting.{Each}
 use Rattle.gw_board.specs.GoingOn.{MayGoOn}
 use Rattle.gw_board.specs.UndoLog.{UndoStep, undone}
@@ -18,7 +16,6 @@ use Rattle.gw_board.specs.Results.{NothingIsOpen}
 use Rattle.gw_board.specs.BoardEntries.{place_of, undo_step_of_writes}
 use Rattle.gw_board.proofs.Comes.{out_of_none}
 use Rattle.gw_board.proofs.GoingOn.{begun_at, fewer_behind, first_left, left_behind, led_behind, led_from, none_pending, with_undo_log}
-use Rattle.gw_board.proofs.Joining.{candidates_beside}
 use Rattle.gw_board.proofs.KeptIn.{all_ready, begun_kept, none_out}
 use Rattle.gw_board.proofs.OnTheWay.{begun_way, gives_the_fold}
 use Rattle.gw_board.proofs.Orders.{each_joined}
@@ -42,18 +39,25 @@ started b w none maps e = subst (λ (m : Maps). MayGoOn b.profile b.start m b.pl
 pub of_tables-draft-requires : goal.of_tables-draft-requires
 of_tables-draft-requires g c = grind (arith, none_out, none_here)
 
-pub carry_each-requires-clause-goes_on : goal.carry_each-requires-clause-goes_on
-carry_each-requires-clause-goes_on g c κs within =
+pub carry_range-requires-clause-goes_on : goal.carry_range-requires-clause-goes_on
+carry_range-requires-clause-goes_on g c κs within =
     let b : Seen = value_of c.self.inside in
     let maps_are : c.of_tables-draft.result.maps ≡ b.maps = ap (λ (p : Parted). p.maps) c.of_tables-draft.ensures ∙ ap (λ (s : Stored). maps_of s) c.replace-tables.ensures.value in
     (b.start, started b c.self.invariant.on_the_way (none_here b c.args.self.now c.self.view_is c.requires.«open») c.of_tables-draft.result.maps maps_are)
+
+pub carry_range-requires-clause-inside : goal.carry_range-requires-clause-inside
+carry_range-requires-clause-inside g c κs within =
+    let same : length (value_of c.self.inside).places ≡ length c.args.self.now.places = ap (λ (x : Seen). length x.places) c.self.view_is in
+    let places = length-places c.self.inside.board_entries.items in
+    let o = c.self.inside.board_entries.ok.0 in
+    omega (arith, c.requires.inside)
 
 -- ---- after want of memory
 
 pub put_all_back-requires-clause-ready : goal.put_all_back-requires-clause-ready
 put_all_back-requires-clause-ready g c =
     let b : Seen = value_of c.self.inside in
-    let begun = begun_at c.replace-tables.ensures.value c.of_tables-draft.ensures c.carry_each.ensures.keys in
+    let begun = begun_at c.replace-tables.ensures.value c.of_tables-draft.ensures c.carry_range.ensures.keys in
     all_ready b.undo_log c.self.inside.tables c.undone.result (subst (λ (s : Stored). KeepReady s c.undone.result) begun c.undone.ensures.kept) c.self.invariant.kept.ready
 
 module _ (g : Over) (c : After-all_pending g) where
@@ -67,12 +71,12 @@ module _ (g : Over) (c : After-all_pending g) where
   left = record { profile = before.profile; start = before.start; maps = maps_of back; places = map place_of c.all_pending.new.board_entries.items; undo_log = c.put_all_back.new.undo_log.items }
 
   places_are : map place_of c.all_pending.new.board_entries.items ≡ map pending (requested_in before.places)
-  places_are = c.all_pending.ensures.places ∙ ap (λ (l : List BurstRequest). map pending l) c.carry_each.ensures.requested
+  places_are = c.all_pending.ensures.places ∙ ap (λ (l : List BurstRequest). map pending l) c.carry_range.ensures.requested
 
   maps_begun : maps_of back ≡ (maps_of before.start)
   maps_begun =
       c.put_all_back.ensures.maps
-      ∙ ap (undone before.undo_log) (c.undone.ensures.maps ∙ ap (λ (s : Stored). maps_of s) (begun_at c.replace-tables.ensures.value c.of_tables-draft.ensures c.carry_each.ensures.keys))
+      ∙ ap (undone before.undo_log) (c.undone.ensures.maps ∙ ap (λ (s : Stored). maps_of s) (begun_at c.replace-tables.ensures.value c.of_tables-draft.ensures c.carry_range.ensures.keys))
       ∙ led_from before c.self.invariant.on_the_way (none_here before c.args.self.now c.self.view_is c.requires.«open»)
 
   is_begun : left ≡ begun_board before.profile (requested_in before.places) before.start
@@ -90,7 +94,7 @@ invariant_of-self g c =
     let room = c.self.invariant.room.all in
     let replies = c.self.invariant.room.replies in
     let len = c.all_pending.ensures.len in
-    let carried = c.carry_each.ensures.len in
+    let carried = c.carry_range.ensures.len in
     let space = c.put_all_back.ensures.capacity in
     let o = c.put_all_back.new.undo_log.ok.0 in
     let s = c.self.inside.board_entries.ok.0 in
@@ -98,7 +102,6 @@ invariant_of-self g c =
       on_the_way = subst IsOnTheWay (sym (is_begun g c)) (begun_again g c);
       kept = subst (IsKeptIn (back g c)) (sym (is_begun g c)) (begun_kept (before g c).profile (requested_in (before g c).places) (before g c).start (back g c) c.put_all_back.ensures.here);
       room = record { undo_log = omega arith; all = omega arith; replies = omega arith; no_replies = c.self.invariant.room.no_replies };
-      candidates = c.forget.ensures (map place_of c.all_pending.new.board_entries.items);
       spare = λ e. swept_spare c.self.inside.start.value (back g c) c.put_all_back.new.undo_log.items (map place_of c.all_pending.new.board_entries.items) c.put_all_back.ensures.swept;
     }
 
@@ -112,9 +115,6 @@ pub returns-in_default-clause-err : goal.returns-in_default-clause-err
 returns-in_default-clause-err g c = is_begun g c ∙ ap (λ (x : Seen). begun_board x.profile (requested_in x.places) x.start) c.self.view_is
 
 -- ---- with all replies
-
-pub release_all-requires-clause-one : goal.release_all-requires-clause-one
-release_all-requires-clause-one g c one = grind (arith, candidates_beside)
 
 pub push_reserved-requires : goal.push_reserved-requires
 push_reserved-requires g c =
@@ -142,10 +142,10 @@ module _ (g : Over) (c : After-push_reserved g) where
   last = undo_step_of_writes found
 
   abbrev places : List Place
-  places = map place_of c.carry_each.new.board_entries.items
+  places = map place_of c.carry_range.new.board_entries.items
 
   abbrev maps : Maps
-  maps = c.carry_each.new.draft.maps
+  maps = c.carry_range.new.draft.maps
 
   went : MayGoOn b.profile b.start maps places
   went = c.in-Ok.ensures.goes_on b.start (started b way none c.of_tables-draft.result.maps (ap (λ (p : Parted). p.maps) c.of_tables-draft.ensures ∙ ap (λ (s : Stored). maps_of s) c.replace-tables.ensures.value))
@@ -153,8 +153,8 @@ module _ (g : Over) (c : After-push_reserved g) where
   undo_log_is : c.push_reserved.new.self.items ≡ b.undo_log ++ last ∷ []
   undo_log_is = c.push_reserved.ensures.items ∙ ap (λ (o : UndoStep). b.undo_log ++ o ∷ []) c.of_writes.ensures
 
-  begun : start_of c.carry_each.new.draft.keys ≡ c.self.inside.tables
-  begun = begun_at c.replace-tables.ensures.value c.of_tables-draft.ensures c.carry_each.ensures.keys
+  begun : start_of c.carry_range.new.draft.keys ≡ c.self.inside.tables
+  begun = begun_at c.replace-tables.ensures.value c.of_tables-draft.ensures c.carry_range.ensures.keys
 
   maps_are : maps_of tables ≡ maps
   maps_are = c.into_tables-tables.ensures.maps
@@ -190,21 +190,20 @@ module _ (g : Over) (c : After-push_reserved g) where
 
 pub invariant_of-self-2 : goal.invariant_of-self-2
 invariant_of-self-2 g c =
-    let left : unclosed (map place_of c.carry_each.new.board_entries.items) ≡ unclosed (drop c.args.places.end (b g c).places) = now_left g c in
+    let left : unclosed (map place_of c.carry_range.new.board_entries.items) ≡ unclosed (drop c.args.places.end (b g c).places) = now_left g c in
     let low : c.args.places.start + 1 ≤ c.args.places.end = omega (arith, c.requires.range) in
     let fewer = fewer_behind (b g c).places (c.args.places.start + 1) c.args.places.end low in
     let some = first_here (b g c) c.args.self.now c.args.places.start c.self.view_is c.requires.first c.requires.pends in
     let room = c.self.invariant.room.undo_log in
     let all = c.self.invariant.room.all in
     let replies = c.self.invariant.room.replies in
-    let len = c.carry_each.ensures.len in
+    let len = c.carry_range.ensures.len in
     let more = c.push_reserved.ensures.len in
     let space = c.push_reserved.ensures.capacity in
     record {
       on_the_way = new_way g c;
       kept = new_kept g c;
       room = record { undo_log = omega arith; all = omega arith; replies = omega arith; no_replies = c.self.invariant.room.no_replies };
-      candidates = subst (λ (l : List BoardEntry). AreCandidates (map place_of l) c.release_all.new.self) c.deref.ensures.value c.release_all.ensures;
       spare = new_spare g c;
     }
 

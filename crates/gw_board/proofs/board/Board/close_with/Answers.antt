@@ -1,9 +1,7 @@
-use Rattle.std.proofs.Common.{◌≡◌, ℕ, suc, List, ◌∷◌, ◌++◌, [], map, Some, refl, sym, ap, subst, ◌∙◌, arith}
+use Rattle.std.proofs.Common.{◌≡◌, ℕ, suc, List, ◌∷◌, ◌++◌, [], map, Some, sym, ap, subst, ◌∙◌, arith}
 use Rattle.std.specs.Prelude.{slice_get, slice_set}
 use Rattle.gw_table.specs.Parts.{Parted, list_of, overlaid}
 use Rattle.gw_table.specs.Stored.{maps_of, AreOut, CameBack}
-use Rattle.gw_board.specs.Core.{Place}
-use Rattle.gw_board.proofs.Joining.{candidates_yet}
 use Rattle.gw_board.specs.BoardView.{value_of, IsOnTheWay, IsKeptIn, NoneIsSpare}
 use Rattle.gw_board.specs.Boards.{Seen, Handed, HasOpen, job_of, undo_step_in, outcome_of, with_result, unclosed}
 use Rattle.gw_board.specs.Core.{Place, Closed, open_with}
@@ -86,8 +84,6 @@ invariant_of-self c =
       kept = subst (IsKeptIn c.put_back.new.self) (sym (is_new c))
           (result_kept_in (b c) c.self.invariant.on_the_way (h c) (o c) c.self.inside.tables c.self.invariant.kept c.put_back.new.self back (λ k i. c.put_back.ensures.ready k ∙ i));
       room = record { undo_log = omega arith; all = omega arith; replies = omega arith; no_replies = c.self.invariant.room.no_replies };
-      candidates = candidates_yet (b c).places (map place_of c.set_stage.new.board_entries.items) (h c).place (open_with (h c).requested (job_of (h c))) _ c.self.inside.candidates (places_are c) c.set_stage.ensures.requested
-          (o c).stands refl refl c.self.invariant.candidates;
       spare = λ e.
           subst (λ (l : List Place). NoneIsSpare (b c).start c.put_back.new.self c.push_reserved.new.self.items l) (sym (places_are c))
           (subst (λ (l : List UndoStep). NoneIsSpare (b c).start c.put_back.new.self l (with_result (b c) (h c)).places) (sym (originals_are c))

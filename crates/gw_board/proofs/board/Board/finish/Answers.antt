@@ -16,7 +16,7 @@ use Rattle.gw_board.proofs.OnTheWay.{gives_the_fold}
 use Rattle.gw_board.proofs.BoardEntryFacts.{told_as, told_all, nil_of}
 use Rattle.gw_board.proofs.Spare.{finished}
 use Rattle.gw_board.proofs.board.Board.finish.Goals as goal
-use Rattle.gw_board.proofs.board.Board.finish.Goals.{After-drop-self-inside-4}
+use Rattle.gw_board.proofs.board.Board.finish.Goals.{After-drop-self-inside}
 
 -- no seat is left, so each is closed with its reply
 closed_now : (board_entries first rest : List BoardEntry) (replies : List Text) → first ≡ board_entries → told_as replies rest ≡ told_as [] first → rest ≡ [] → AreClosed (map place_of board_entries) replies
@@ -31,7 +31,7 @@ sweep_logged-requires c =
     let closed = closed_now c.self.inside.board_entries.items c.into_iter-board_entry-iterator.result.rest.items rest replies c.into_iter-board_entry-iterator.ensures.into_iter_gives.0 c.loop-board_entry.invariant.limited_text none in
     none_out b c.self.inside.tables c.self.invariant.kept (closed_ones b.places replies closed)
 
-module _ (c : After-drop-self-inside-4) where
+module _ (c : After-drop-self-inside) where
   abbrev b : Seen
   b = value_of c.self.inside
 

@@ -5,9 +5,6 @@ use Rattle.gw_base.specs.declared.key.Key.{Key}
 use Rattle.gw_table.specs.Maps.{Maps}
 use Rattle.gw_table.specs.Parts.{Only, list_of, restricted, cut}
 use Rattle.gw_table.specs.Stored.{maps_of, is_out, names_entry, AreIn, NoOtherReady}
-use Rattle.gw_board.specs.Candidates.{AreCandidates, AreCandidatesBut}
-use Rattle.gw_board.specs.declared.board_entry.BoardEntry.{BoardEntry}
-use Rattle.gw_board.proofs.Joining.{candidates_but}
 use Rattle.gw_board.specs.BoardView.{value_of, IsOnTheWay, IsKeptIn, NoneIsSpare}
 use Rattle.gw_board.specs.Boards.{Seen, Handed, core_of, Opens, with_open, unclosed}
 use Rattle.gw_board.specs.Carried.{BurstRequest}
@@ -19,7 +16,7 @@ use Rattle.gw_board.proofs.OnTheWay.{gives_the_fold, open_way, open_job}
 use Rattle.gw_board.proofs.BoardEntryFacts.{seat_inside, unclosed-stays}
 use Rattle.gw_board.proofs.Spare.{open_spare}
 use Rattle.gw_board.proofs.board.Board.hand_out.Goals as goal
-use Rattle.gw_board.proofs.board.Board.hand_out.Goals.{After-release}
+use Rattle.gw_board.proofs.board.Board.hand_out.Goals.{After-set_stage}
 
 pub take_out-part-requires-clause-here : goal.take_out-part-requires-clause-here
 take_out-part-requires-clause-here c =
@@ -31,15 +28,7 @@ take_out-part-requires-clause-here c =
 pub set_stage-requires : goal.set_stage-requires
 set_stage-requires c = seat_inside c.self.inside.board_entries.items c.args.place (pending c.args.task) (ap (λ (x : Seen). slice_get x.places c.args.place) c.self.view_is ∙ c.requires.pends)
 
-pub release-requires : goal.release-requires
-release-requires c =
-    let b : Seen = value_of c.self.inside in
-    subst (λ (l : List BoardEntry). AreCandidatesBut c.args.place (map place_of l) c.self.inside.candidates) (sym c.deref.ensures.value)
-    (candidates_but b.places (map place_of c.set_stage.new.board_entries.items) c.args.place _ c.self.inside.candidates
-    (c.set_stage.ensures.places (pending c.args.task) (ap (λ (x : Seen). slice_get x.places c.args.place) c.self.view_is ∙ c.requires.pends))
-    c.set_stage.ensures.requested refl c.self.invariant.candidates)
-
-module _ (c : After-release) where
+module _ (c : After-set_stage) where
   abbrev b : Seen
   b = value_of c.self.inside
 
@@ -112,7 +101,6 @@ invariant_of-self-2 c =
           (λ k. c.take_out-part.ensures.out k ∙ ap (λ (l : List Key). is_out c.prepare.new.self k || (has l k && names_entry k)) c.in-Ok.ensures.keys ∙ ap (λ o. o || (has c.args.keys k && names_entry k)) (c.in-Ok.ensures.out k))
           (λ k h. c.take_out-part.ensures.ready k ∙ c.in-Ok.ensures.kept k h));
       room = record { undo_log = omega arith; all = omega arith; replies = omega arith; no_replies = c.self.invariant.room.no_replies };
-      candidates = subst (λ (l : List BoardEntry). AreCandidates (map place_of l) c.release.new.self) c.deref.ensures.value c.release.ensures;
       spare = λ e.
           subst (λ (l : List Place). NoneIsSpare (b c).start c.take_out-part.new.self (b c).undo_log l) (sym (places_are c))
           (open_spare (b c) c.args.place c.args.task c.args.keys c.self.inside.tables c.take_out-part.new.self (may c).pends (others_ready c) (maps_are c) (c.self.invariant.spare e));

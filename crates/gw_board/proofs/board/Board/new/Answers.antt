@@ -8,12 +8,12 @@ use Rattle.gw_board.proofs.OnTheWay.{begun_way, gives_the_fold}
 use Rattle.gw_board.proofs.BoardEntryFacts.{unclosed-pending, length-places, length-pending}
 use Rattle.gw_board.proofs.Spare.{begun_spare}
 use Rattle.gw_board.proofs.board.Board.new.Goals as goal
-use Rattle.gw_board.proofs.board.Board.new.Goals.{After-new}
+use Rattle.gw_board.proofs.board.Board.new.Goals.{After-of-start}
 
-is_begun : (c : After-new) → record { profile = c.args.profile; start = c.of-start.result.value; maps = maps_of c.args.tables; places = map place_of c.in-Ok.board_entries.items; undo_log = c.in-Ok-with_capacity.undo_log.items } ≡ begun_board c.args.profile c.args.requested.now c.args.tables
+is_begun : (c : After-of-start) → record { profile = c.args.profile; start = c.of-start.result.value; maps = maps_of c.args.tables; places = map place_of c.in-Ok.board_entries.items; undo_log = c.in-Ok-with_capacity.undo_log.items } ≡ begun_board c.args.profile c.args.requested.now c.args.tables
 is_begun c = grind arith
 
-way : (c : After-new) → IsOnTheWay (begun_board c.args.profile c.args.requested.now c.args.tables)
+way : (c : After-of-start) → IsOnTheWay (begun_board c.args.profile c.args.requested.now c.args.tables)
 way c = begun_way c.args.profile c.args.requested.now c.args.tables c.requires.whole c.requires.unused
 
 pub invariant_of-result : goal.invariant_of-result
@@ -28,7 +28,6 @@ invariant_of-result c =
       on_the_way = subst IsOnTheWay (sym (is_begun c)) (way c);
       kept = subst (IsKeptIn c.args.tables) (sym (is_begun c)) (begun_kept c.args.profile c.args.requested.now c.args.tables c.args.tables c.requires.here);
       room = record { undo_log = omega arith; all = omega arith; replies = omega arith; no_replies = c.in-Ok-with_capacity-2.ensures.items };
-      candidates = c.new.ensures (map place_of c.in-Ok.board_entries.items);
       spare = λ e. begun_spare c.of-start.result.value c.args.tables c.in-Ok-with_capacity.undo_log.items (map place_of c.in-Ok.board_entries.items) c.of-start.ensures;
     }
 

@@ -66,7 +66,6 @@ invariant_of-self c =
       kept = subst (IsKeptIn c.put_back.new.self) (sym (is_new c))
           (unchanged_kept (b c) c.self.invariant.on_the_way (h c) (o c) c.self.inside.tables c.self.invariant.kept c.put_back.new.self back (λ k i. c.put_back.ensures.ready k ∙ i));
       room = record { undo_log = omega arith; all = omega arith; replies = omega arith; no_replies = c.self.invariant.room.no_replies };
-      candidates = c.forget.ensures (map place_of c.set_stage.new.board_entries.items);
       spare = λ e. absurd cc;
     }
 
