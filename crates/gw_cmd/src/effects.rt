@@ -77,11 +77,12 @@ fn act_on(
     ensures keys { draft.new.keys ≡ draft.old.keys }
     ensures same { IsSameCommand prepared.old prepared.new }
 {
-    let Some(old) = draft.term_at(target) else {
+    let name = target.name();
+    let Some(old) = draft.term(name) else {
         return Err(Refusal::Code(Code::UnknownTermination));
     };
     let decided = decided(alloc, draft, act, &mut prepared.merger, old, wanted)?;
-    changed(alloc, prepared.rules, draft, target.name(), decided.change)?;
+    changed(alloc, prepared.rules, draft, name, decided.change)?;
     Ok(decided.parts)
 }
 
@@ -97,14 +98,15 @@ fn serve(
     ensures gives { (rules : TheRules) (c : Command) (wanted : Bool) → Does (does.Serve place service) c → Gives result draft.new.maps (answered wanted (on_name rules place c target.now draft.old.maps)) }
     ensures keys { draft.new.keys ≡ draft.old.keys }
 {
-    let Some(old) = draft.term_at(target) else {
+    let name = target.name();
+    let Some(old) = draft.term(name) else {
         return Err(Refusal::Code(Code::UnknownTermination));
     };
     if let Some(code) = refusal_elsewhere(place, old.place()) {
         return Err(Refusal::Code(code));
     }
     let given = service.unwrap_or(old.service());
-    draft.set_service(target.name(), given)?;
+    draft.set_service(name, given)?;
     Ok(Items::new(alloc))
 }
 

@@ -257,6 +257,7 @@ pub fn command_written(
     let execution = Execution { at, slot, task };
     if let TermRef::Name(name) = &command.term {
         let target = Target::named(*name);
+        draft.seek_term(&target);
         let named = slice::from_ref(&target);
         return on_allowed(alloc, draft, execution, prepared, named, writer);
     }

@@ -16,7 +16,7 @@ use gw_base::{Items, NoMemory, Service, Span, TermName};
 use gw_desc::{Descriptor, item_of};
 use gw_refusal::first_audit;
 use gw_reply::{AuditReply, ReplyPart};
-use gw_table::Draft;
+use gw_table::{Draft, Target};
 use std::alloc::Global;
 
 /// The terminations of these names have this service state.
@@ -26,6 +26,7 @@ fn all_serviced(draft: &mut Draft, service: Service, named: &[TermName]) -> Resu
     ensures keys { draft.new.keys ≡ draft.old.keys }
 {
     for name in named {
+        draft.seek_term(&Target::named(*name));
         draft.set_service(name, service)?;
     }
     Ok(())

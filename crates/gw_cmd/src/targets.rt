@@ -119,6 +119,7 @@ pub(crate) fn on_targets(
     let mut first_error = None;
     let mut any_done = false;
     for target in named {
+        draft.seek_term(target);
         let one = on_target(alloc, draft, task, prepared, target, written)?;
         written = one.written;
         any_done = any_done || one.any_done;

@@ -17,6 +17,7 @@ use crate::free::Target;
 use crate::in_place::InPlace;
 use crate::part::Part;
 use crate::row::joined;
+use crate::rows::{Guide, guide_at};
 use crate::tables::Tables;
 use crate::undo_log::UndoLog;
 use gw_base::{CtxNum, Key, NoMemory, Service, TermName};
@@ -90,15 +91,22 @@ impl Draft {
         }
     }
 
-    /// The termination that a command is for. In whole tables it is no look-up where the target was found.
-    pub fn term_at(&self, target: &Target) -> Option<&Termination>
-        ensures { option_copied result ≡ term self.now.maps target.now }
+    /// Looks for a termination that a command is for, so that what follows does not search whole tables for it again,
+    /// until another is sought or written. Nothing changes.
+    pub fn seek_term(&mut self, target: &Target)
+        ensures { self.new ≡ self.old }
     {
-        match &self.backing {
-            Backing::OfPart(part) => part.term(target.name()),
-            Backing::OfTables(backing) => backing
-                .tables
-                .find_term_at(target.guide(), target.name()),
+        if let Backing::OfTables(backing) = &mut self.backing {
+            backing.tables.seek_term(target.guide(), target.name());
+        }
+    }
+
+    /// Looks for the context that an action is for, as `seek_term` does for a termination.
+    pub fn seek_ctx(&mut self, number: CtxNum)
+        ensures { self.new ≡ self.old }
+    {
+        if let Backing::OfTables(backing) = &mut self.backing {
+            backing.tables.seek_ctx(number);
         }
     }
 
@@ -123,13 +131,7 @@ impl Draft {
         ensures err { OnErr result (self.new.maps ≡ self.old.maps) }
         ensures keys { self.new.keys ≡ self.old.keys }
     {
-        match &mut self.backing {
-            Backing::OfPart(part) => {
-                part.set_term(&name, entry);
-                Ok(())
-            }
-            Backing::OfTables(backing) => backing.set_term(&name, entry),
-        }
+        self.set_term_at(Guide::none(), &name, entry)
     }
 
     /// Sets the context with a number, or none. The caller knows that the number is one of the draft's keys.
@@ -143,13 +145,7 @@ impl Draft {
         ensures err { OnErr result (self.new.maps ≡ self.old.maps) }
         ensures keys { self.new.keys ≡ self.old.keys }
     {
-        match &mut self.backing {
-            Backing::OfPart(part) => {
-                part.set_ctx(number, entry);
-                Ok(())
-            }
-            Backing::OfTables(backing) => backing.set_ctx(number, entry),
-        }
+        self.set_ctx_at(Guide::none(), number, entry)
     }
 
     /// Takes the context with a number out of the draft, to be changed and set again: a copy, where what stood there
@@ -321,21 +317,64 @@ impl Draft {
         }
     }
 
-    /// Sets what is in the cell of a key, or none.
-    fn set_cell(&mut self, key: &Key, cell: Cell) -> Result<(), NoMemory>
+    /// Sets the termination of a name, which whole tables look for where the guide says first, as `set_term` does.
+    fn set_term_at(
+        &mut self,
+        guide: Guide,
+        name: &TermName,
+        entry: Option<Termination>,
+    ) -> Result<(), NoMemory>
+        requires { holds self.old.keys (Term name.now) ≡ true }
+        ensures maps { OnOk result (self.new.maps ≡ put_term self.old.maps name.now entry) }
+        ensures err { OnErr result (self.new.maps ≡ self.old.maps) }
+        ensures keys { self.new.keys ≡ self.old.keys }
+    {
+        match &mut self.backing {
+            Backing::OfPart(part) => {
+                part.set_term(name, entry);
+                Ok(())
+            }
+            Backing::OfTables(backing) => backing.set_term(guide, name, entry),
+        }
+    }
+
+    /// Sets the context with a number, which whole tables look for where the guide says first, as `set_ctx` does.
+    fn set_ctx_at(
+        &mut self,
+        guide: Guide,
+        number: CtxNum,
+        entry: Option<Context>,
+    ) -> Result<(), NoMemory>
+        requires { holds self.old.keys (Ctx number) ≡ true }
+        ensures maps { OnOk result (self.new.maps ≡ put_ctx self.old.maps number entry) }
+        ensures err { OnErr result (self.new.maps ≡ self.old.maps) }
+        ensures keys { self.new.keys ≡ self.old.keys }
+    {
+        match &mut self.backing {
+            Backing::OfPart(part) => {
+                part.set_ctx(number, entry);
+                Ok(())
+            }
+            Backing::OfTables(backing) => backing.set_ctx(guide, number, entry),
+        }
+    }
+
+    /// Sets what is in the cell of a key, which whole tables look for where the guide says first, or none.
+    fn set_cell(&mut self, guide: Guide, key: &Key, cell: Cell) -> Result<(), NoMemory>
         requires { holds self.old.keys key.now ≡ true }
         ensures maps { OnOk result (self.new.maps ≡ put_cell key.now cell self.old.maps) }
         ensures keys { self.new.keys ≡ self.old.keys }
     {
         match key {
-            Key::Term(name) => self.set_term(*name, cell.into_term().into_entry()),
-            Key::Ctx(number) => self.set_ctx(*number, cell.into_ctx().into_entry()),
+            Key::Term(name) => self.set_term_at(guide, name, cell.into_term().into_entry()),
+            Key::Ctx(number) => self.set_ctx_at(guide, *number, cell.into_ctx().into_entry()),
             Key::Whole => Ok(()),
         }
     }
 
     /// Lays the entries of a part over those of the draft: each of the part's keys has the part's entry then, or none
-    /// where the part has none. The caller knows that they are among the draft's keys. A key takes one write.
+    /// where the part has none. The caller knows that they are among the draft's keys. A key takes one write, and no
+    /// search where its guide is right.
     ///
     /// # Errors
     ///
@@ -348,11 +387,11 @@ impl Draft {
         let Part {
             keys,
             mut cells,
-            guides: _,
+            guides,
         } = part;
         for (i, key) in keys.iter().enumerate() {
             let cell = mem::replace(&mut cells[i], Cell::OfWhole);
-            self.set_cell(key, cell)?;
+            self.set_cell(guide_at(&guides, i), key, cell)?;
         }
         Ok(())
     }

@@ -26,10 +26,11 @@ use std::snapshot::Snapshot;
 
 impl Tables {
     /// Sets the place of a termination, and answers what was found there, which the caller logs next where the
-    /// name is not logged in the list of writes. It is one look-up, or two where the name has no place. A refused
-    /// allocation changes nothing.
+    /// name is not logged in the list of writes. It is looked for where the guide says first: that is no search where it
+    /// is right, and else one, or two where the name has no place. A refused allocation changes nothing.
     pub(crate) fn write_term(
         &mut self,
+        guide: Guide,
         name: &TermName,
         place: Place<Termination>,
         writes: &[Write],
@@ -39,7 +40,7 @@ impl Tables {
         ensures err { OnErr result (self.new ≡ self.old) }
     {
         let stands = place.is_here();
-        if let Some(row) = self.terms.get_mut(name) {
+        if let Some(row) = self.terms.get_mut_at(guide, name) {
             let found = row.write(place, writes, &Key::Term(*name));
             set_slot(&mut self.slots, name, stands);
             return Ok(found);
@@ -52,6 +53,7 @@ impl Tables {
     /// Sets the place of a context, as `write_term` does.
     pub(crate) fn write_ctx(
         &mut self,
+        guide: Guide,
         number: CtxNum,
         place: Place<Context>,
         writes: &[Write],
@@ -61,7 +63,7 @@ impl Tables {
         ensures err { OnErr result (self.new ≡ self.old) }
     {
         let stands = place.is_here();
-        if let Some(row) = self.contexts.get_mut(&number.0) {
+        if let Some(row) = self.contexts.get_mut_at(guide, &number.0) {
             let found = row.write(place, writes, &Key::Ctx(number));
             set_number(&mut self.numbers, number, stands);
             return Ok(found);
@@ -70,22 +72,6 @@ impl Tables {
             .insert(number.0, Row::logged_in(writes, place))?;
         set_number(&mut self.numbers, number, stands);
         Ok(Found::Unlogged(None))
-    }
-
-    /// Empties the place of a context, and answers what was found there, which the caller logs next where the number is
-    /// not logged in the list of writes. A number that has no place gets none, and nothing changes. It is one look-up.
-    pub(crate) fn empty_ctx(&mut self, number: CtxNum, writes: &[Write]) -> Option<Found<Context>>
-        ensures found { IfSome result (λ found. IsFound (keys_written writes.now) (Ctx number) (ctx (maps_of self.old) number) found) }
-        ensures emptied { OnSome result (self.new ≡ put_ctx_place self.old number Empty) }
-        ensures absent { IfNone result (ctx (maps_of self.old) number ≡ None) }
-        ensures same { IfNone result (self.new ≡ self.old) }
-    {
-        let Some(row) = self.contexts.get_mut(&number.0) else {
-            return None;
-        };
-        let found = row.write(Place::Empty, writes, &Key::Ctx(number));
-        set_number(&mut self.numbers, number, false);
-        Some(found)
     }
 
     /// The name joins the context with a number, in its place, if there is one and the number is logged in the list of
@@ -158,10 +144,11 @@ impl InPlace {
         }
     }
 
-    /// Sets the termination of a name, or none. What stood there is moved to the log; where it was written before it is
-    /// dropped, since what stood there first is logged.
+    /// Sets the termination of a name, which is looked for where the guide says first, or none. What stood there is moved
+    /// to the log; where it was written before it is dropped, since what stood there first is logged.
     pub(crate) fn set_term(
         &mut self,
+        guide: Guide,
         name: &TermName,
         entry: Option<Termination>,
     ) -> Result<(), NoMemory>
@@ -172,7 +159,7 @@ impl InPlace {
         make_room(&mut self.writes)?;
         let found = self
             .tables
-            .write_term(name, Place::of(entry), &self.writes)?;
+            .write_term(guide, name, Place::of(entry), &self.writes)?;
         match found {
             Found::Logged(_) => Ok(()),
             Found::Unlogged(before) => {
@@ -183,7 +170,12 @@ impl InPlace {
     }
 
     /// Sets the context with a number, or none, as `set_term` does.
-    pub(crate) fn set_ctx(&mut self, number: CtxNum, entry: Option<Context>) -> Result<(), NoMemory>
+    pub(crate) fn set_ctx(
+        &mut self,
+        guide: Guide,
+        number: CtxNum,
+        entry: Option<Context>,
+    ) -> Result<(), NoMemory>
         ensures maps { OnOk result (self.new.maps ≡ put_ctx self.old.maps number entry) }
         ensures err { OnErr result (self.new.maps ≡ self.old.maps) }
         ensures keys { self.new.keys ≡ self.old.keys }
@@ -191,7 +183,7 @@ impl InPlace {
         make_room(&mut self.writes)?;
         let found = self
             .tables
-            .write_ctx(number, Place::of(entry), &self.writes)?;
+            .write_ctx(guide, number, Place::of(entry), &self.writes)?;
         match found {
             Found::Logged(_) => Ok(()),
             Found::Unlogged(before) => {
@@ -202,17 +194,20 @@ impl InPlace {
     }
 
     /// Takes the context with a number out, to be changed and set again: the context itself where it was written
-    /// before, and else a copy, since what stood there is logged. A number that has no place is not written.
+    /// before, and else a copy, since what stood there is logged. A number without a context is not written.
     pub(crate) fn take_ctx(&mut self, number: CtxNum) -> Result<Option<Context>, NoMemory>
         ensures context { IfOk result (λ context. context ≡ ctx self.old.maps number) }
         ensures maps { OnOk result (self.new.maps ≡ put_ctx self.old.maps number None) }
         ensures err { OnErr result (self.new.maps ≡ self.old.maps) }
         ensures keys { self.new.keys ≡ self.old.keys }
     {
-        make_room(&mut self.writes)?;
-        let Some(found) = self.tables.empty_ctx(number, &self.writes) else {
+        if self.tables.find_ctx(number).is_none() {
             return Ok(None);
-        };
+        }
+        make_room(&mut self.writes)?;
+        let found = self
+            .tables
+            .write_ctx(Guide::none(), number, Place::Empty, &self.writes)?;
         match found {
             Found::Logged(context) => Ok(context),
             Found::Unlogged(None) => {

@@ -154,13 +154,29 @@ impl Tables {
         }
     }
 
+    /// Where the row of a key is, or as of none.
+    fn guide_of(&self, key: &Key) -> Guide {
+        let found = match key {
+            Key::Term(name) => self.terms.find(name),
+            Key::Ctx(number) => self.contexts.find(&number.0),
+            Key::Whole => None,
+        };
+        found.unwrap_or(Guide::none())
+    }
+
     /// A copy of what stands at a key, as its cell. One that is out is none.
-    fn copied_cell(&self, key: &Key) -> Result<Cell, NoMemory>
+    fn copied_cell(&self, guide: Guide, key: &Key) -> Result<Cell, NoMemory>
         ensures { IfOk result (λ cell. cell ≡ visible_cell (maps_of self.now) key.now) }
     {
         match key {
-            Key::Term(name) => Ok(Cell::OfTerm(Place::of(self.find_term(name).cloned()?))),
-            Key::Ctx(number) => Ok(Cell::OfCtx(Place::of(self.find_ctx(*number).cloned()?))),
+            Key::Term(name) => {
+                let entry = self.find_term_at(guide, name);
+                Ok(Cell::OfTerm(Place::of(entry.cloned()?)))
+            }
+            Key::Ctx(number) => {
+                let entry = self.find_ctx_at(guide, *number);
+                Ok(Cell::OfCtx(Place::of(entry.cloned()?)))
+            }
             Key::Whole => Ok(Cell::OfWhole),
         }
     }
@@ -176,10 +192,12 @@ impl Tables {
         ensures keys { IfOk result (λ part. part.keys ≡ Only keys.items) }
         ensures maps { IfOk result (λ part. part.maps ≡ restricted keys.items (maps_of self.now)) }
     {
-        let guides = vec![in alloc; Guide::none(); keys.len()]?;
+        let mut guides = Vec::with_capacity(alloc, keys.len())?;
         let mut cells = Vec::with_capacity(alloc, keys.len())?;
         for key in &keys {
-            cells.push(self.copied_cell(key)?)?;
+            let guide = self.guide_of(key);
+            guides.push(guide)?;
+            cells.push(self.copied_cell(guide, key)?)?;
         }
         Ok(Part {
             keys,

@@ -62,7 +62,7 @@ pub(crate) fn set_guide(guides: &mut [Guide], i: usize, guide: Guide) {
 }
 
 /// Rows by key, in the order of the keys: the index has the number of the row of each key. The place of a row that was
-/// dropped is used again. The key that was last found to be changed is found again without a search.
+/// dropped is used again. The key that was last sought, or found to be changed, is found again without a search.
 #[derive(Drop)]
 pub(crate) struct Rows<K: Ord, T> {
     index: BTreeMap<K, usize>,
@@ -159,12 +159,23 @@ impl<K: Ord, T> Rows<K, T> {
         }
     }
 
+    /// Looks for a key, so that it is not searched for again until another was sought or found to be changed. The guide
+    /// is looked at first, and where it is right there is no search.
+    pub(crate) fn seek(&mut self, guide: Guide, key: &K)
+        ensures { self.new ≡ self.old }
+    {
+        if let Some(number) = number_of(&self.index, &self.rows, self.last, guide, key) {
+            self.last = Guide::at(number);
+        }
+    }
+
     /// Where the next row that is made will be.
     pub(crate) fn next_guide(&self) -> Guide {
         Guide::at(self.rows.vacant_key())
     }
 
-    /// What stands at a key. The guide is looked at first, and where it is right the key is not searched for.
+    /// What stands at a key. The guide is looked at first, or where it is none the key that was sought or changed last,
+    /// and where that is right the key is not searched for.
     pub(crate) fn get_at(&self, guide: Guide, key: &K) -> Option<&Row<T>>
         ensures { option_copied result ≡ found K.cmp self.now key.now }
     {
@@ -174,14 +185,7 @@ impl<K: Ord, T> Rows<K, T> {
         }
     }
 
-    /// What stands at a key, which is not searched for where it was last found to be changed.
-    pub(crate) fn get(&self, key: &K) -> Option<&Row<T>>
-        ensures value { option_copied result ≡ found K.cmp self.now key.now }
-    {
-        self.get_at(Guide::none(), key)
-    }
-
-    /// What stands at a key, to be changed. It is not searched for where it was last found so.
+    /// What stands at a key, to be changed. It is not searched for where it was sought or found so last.
     pub(crate) fn get_mut(&mut self, key: &K) -> Option<&mut Row<T>>
         ensures* writes_back { sem 𝓛 (LendsFound K.row T.row K.Ord self.entry key.now result) }
         ensures value { option_copied_mut result ≡ found K.cmp self.old key.now }

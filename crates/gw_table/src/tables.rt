@@ -160,7 +160,7 @@ impl Tables {
     pub fn find_term(&self, name: &TermName) -> Option<&Termination>
         ensures { option_copied result ≡ term (maps_of self.now) name.now }
     {
-        entry_at(place_at(self.terms.get(name)))
+        self.find_term_at(Guide::none(), name)
     }
 
     /// The termination of a name, which is looked for where the guide says first. One that is out is not found.
@@ -170,11 +170,32 @@ impl Tables {
         entry_at(place_at(self.terms.get_at(guide, name)))
     }
 
+    /// Looks for the termination of a name, where the guide says first, so that it is not searched for again.
+    pub(crate) fn seek_term(&mut self, guide: Guide, name: &TermName)
+        ensures { self.new ≡ self.old }
+    {
+        self.terms.seek(guide, name);
+    }
+
+    /// Looks for the context with a number, so that it is not searched for again.
+    pub(crate) fn seek_ctx(&mut self, number: CtxNum)
+        ensures { self.new ≡ self.old }
+    {
+        self.contexts.seek(Guide::none(), &number.0);
+    }
+
     /// The context with a number. One that is out is not found.
     pub fn find_ctx(&self, number: CtxNum) -> Option<&Context>
         ensures { option_copied result ≡ ctx (maps_of self.now) number }
     {
-        entry_at(place_at(self.contexts.get(&number.0)))
+        self.find_ctx_at(Guide::none(), number)
+    }
+
+    /// The context with a number, which is looked for where the guide says first. One that is out is not found.
+    pub(crate) fn find_ctx_at(&self, guide: Guide, number: CtxNum) -> Option<&Context>
+        ensures { option_copied result ≡ ctx (maps_of self.now) number }
+    {
+        entry_at(place_at(self.contexts.get_at(guide, &number.0)))
     }
 
     /// The names of all terminations, in the order of their bytes.

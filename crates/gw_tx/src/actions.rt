@@ -44,6 +44,7 @@ fn action_in(
     ensures answer { IfOk result (λ done. done ≡ progress action_reply_text writer (done_in task.now.rules.now number (owned_action task.now) draft.old.maps (ctx draft.old.maps number)).answer) }
     ensures keys { draft.new.keys ≡ draft.old.keys }
 {
+    draft.seek_ctx(number);
     if draft.ctx(number).is_none() {
         return action_error(alloc, writer, CtxRef::Num(number), Code::UnknownContext);
     }

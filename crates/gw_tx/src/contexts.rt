@@ -99,6 +99,7 @@ fn in_all(
     let mut stopped = false;
     let mut writer = writer;
     for number in numbers {
+        draft.seek_ctx(*number);
         let done = in_each(alloc, draft, *number, task, prepared, writer)?;
         stopped = stopped || done.stopped;
         writer = done.writer;

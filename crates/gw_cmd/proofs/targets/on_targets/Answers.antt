@@ -17,7 +17,7 @@ use Rattle.gw_reply.specs.declared.reply.CommandReply.{CommandReply}
 use Rattle.gw_term.specs.declared.record.Termination.{Termination}
 use Rattle.gw_table.specs.declared.attempts.Attempts.{Attempts}
 use Rattle.gw_table.specs.Maps.{Maps, Outcome, term}
-use Rattle.gw_table.specs.Parts.{PartKeys, holds}
+use Rattle.gw_table.specs.Parts.{Parted, PartKeys, holds}
 use Rattle.gw_table.specs.Reserved.{slot_name}
 use Rattle.gw_table.specs.WellFormed.{IsSound}
 use Rattle.gw_table.proofs.Folding.{ended, rest_of, goes_on, ends}
@@ -44,9 +44,9 @@ was_there t old new absent h = at (term old t) refl
 
 pub on_target-requires-clause-term_key : goal.on_target-requires-clause-term_key
 on_target-requires-clause-term_key c = λ found.
-    ap (λ (k : PartKeys). holds k (Term c.target-item.result)) c.loop-target.invariant.keys
+    ap (λ (p : Parted). holds p.keys (Term c.target-item.result)) c.seek_term.ensures ∙ ap (λ (k : PartKeys). holds k (Term c.target-item.result)) c.loop-target.invariant.keys
     ∙ c.requires.term_keys c.target-item.result (in_at c.args.named.now c.loop-target.target-index c.target-item.result c.loop-target-test.true c.target-item.is)
-    (was_there c.target-item.result c.args.draft.now.maps c.loop-target.draft.maps (c.loop-target.invariant.absent c.target-item.result) found)
+    (was_there c.target-item.result c.args.draft.now.maps c.loop-target.draft.maps (c.loop-target.invariant.absent c.target-item.result) (rw c.seek_term.ensures at found))
 
 pub loop-target-preserved : goal.loop-target-preserved
 loop-target-preserved c =
@@ -62,9 +62,9 @@ loop-target-preserved c =
     let split : drop i c.args.named.now ≡ t ∷ rest = rest_of c.args.named.now i t t c.loop-target-test.true c.target-item.is in
     let r : CommandReply = reply sent (Name t) (on_name rules place sent t m).answer in
     let maps : c.on_target.new.draft.maps ≡ (on_name rules place sent t m).maps =
-    c.in_ok-one.ensures.maps ∙ same_in (λ x y. (on_name x place y t m).maps) p c.loop-target.prepared c.loop-target.invariant.same in
+    (rw c.seek_term.ensures at c.in_ok-one.ensures.maps) ∙ same_in (λ x y. (on_name x place y t m).maps) p c.loop-target.prepared c.loop-target.invariant.same in
     let one : c.in_ok-one.one ≡ seen before (r ∷ []) =
-    c.in_ok-one.ensures.answer ∙ same_in (λ x y. seen before (reply y (Name t) (on_name x place y t m).answer ∷ [])) p c.loop-target.prepared c.loop-target.invariant.same in
+    (rw c.seek_term.ensures at c.in_ok-one.ensures.answer) ∙ same_in (λ x y. seen before (reply y (Name t) (on_name x place y t m).answer ∷ [])) p c.loop-target.prepared c.loop-target.invariant.same in
     let now : Outcome (Attempts Unit CommandReply) = ended c.on_target.new.draft.maps tt (r ∷ []) false in
     let did : now ≡ target_in rules place sent tt t m = ap (λ (x : Maps). ended x tt (r ∷ []) false) maps in
     let front : List CommandReply = c.loop-target.invariant.replies.0 in
@@ -94,7 +94,7 @@ loop-target-preserved c =
           (kept_name rules (λ x. holds c.args.draft.now.keys (Term x)) (λ _. Unit {0}) (sound_is_kept rules c.args.draft.now.keys (λ _. Unit {0})) place sent t m held c.loop-target.invariant.sound);
       absent = λ q none. ap (λ (x : Maps). term x q) maps
           ∙ kept_name rules (λ _. true) (λ s. slot_name s ≢ q) (absent_is_kept rules q) place sent t m (λ _. refl) (c.loop-target.invariant.absent q none);
-      keys = c.in_ok-one.ensures.keys ∙ c.loop-target.invariant.keys;
+      keys = c.in_ok-one.ensures.keys ∙ ap (λ (p : Parted). p.keys) c.seek_term.ensures ∙ c.loop-target.invariant.keys;
       same = same_after p c.loop-target.prepared c.on_target.new.prepared c.loop-target.invariant.same c.in_ok-one.ensures.same;
     }
 

@@ -13,7 +13,7 @@ use Rattle.gw_table.specs.Parts.{Parted}
 use Rattle.gw_table.proofs.Folding.{rest_of}
 use Rattle.gw_cmd.proofs.Parted.{StaysPart}
 use Rattle.gw_tx.specs.declared.limited_text.Progress.{Progress}
-use Rattle.gw_tx.specs.Footprints.{list_keys}
+use Rattle.gw_tx.specs.Footprints.{list_keys, Covers}
 use Rattle.gw_tx.specs.LimitedText.{owned_action, progress}
 use Rattle.gw_tx.specs.Transactions.{in_each}
 use Rattle.gw_tx.proofs.Facts.{commands_keep_part}
@@ -40,7 +40,8 @@ pub in_each-requires-clause-covered : goal.in_each-requires-clause-covered
 in_each-requires-clause-covered c =
     let a = c.args in
     let n : CtxNum = get_or a.numbers.now c.loop-number.number-index (number 0) in
-    covers_list a.draft.now c.loop-number.draft a.task.now.slots.now c.loop-number.invariant.kept c.loop-number.invariant.keys (Each n) (paired_commands a.task.now.slots.now a.task.now.sent.now.commands) (c.requires.covered n).held
+    subst (λ (p : Parted). Covers p (list_keys (Each n) (paired_commands a.task.now.slots.now a.task.now.sent.now.commands) p.maps)) (sym c.seek_ctx.ensures)
+    (covers_list a.draft.now c.loop-number.draft a.task.now.slots.now c.loop-number.invariant.kept c.loop-number.invariant.keys (Each n) (paired_commands a.task.now.slots.now a.task.now.sent.now.commands) (c.requires.covered n).held)
 
 pub loop-number-preserved : goal.loop-number-preserved
 loop-number-preserved c =
@@ -60,13 +61,13 @@ loop-number-preserved c =
     let answer : one ≡ progress action_reply_text c.loop-number.writer (in_each a.task.now.rules.now (owned_action a.task.now) c.loop-number.stopped n now).answer =
     ap (λ (v : ReplyWriter ActionReply). let d : Progress Bool ActionReply = record { next = c.if-stopped.stopped; writer = v; stopped = false } in d) writer
     ∙ ap (λ (b : Bool). let d : Progress Bool ActionReply = record { next = b; writer = c.in_ok-done.done.writer; stopped = false } in d) stopped
-    ∙ ap (λ (p : Progress Unit ActionReply). let d : Progress Bool ActionReply = record { next = c.loop-number.stopped || p.stopped; writer = p.writer; stopped = false } in d) c.in_ok-done.ensures.answer in
+    ∙ ap (λ (p : Progress Unit ActionReply). let d : Progress Bool ActionReply = record { next = c.loop-number.stopped || p.stopped; writer = p.writer; stopped = false } in d) (rw c.seek_ctx.ensures at c.in_ok-done.ensures.answer) in
     record {
-      replies = one_more c.loop-number.invariant.replies n rest c.in_each.new.draft.maps one split c.in_ok-done.ensures.maps answer refl;
-      kept = subst (λ (m : Maps). With AnySlot (StaysPart start.keys start.maps) a.task.now.slots.now m) (sym c.in_ok-done.ensures.maps)
+      replies = one_more c.loop-number.invariant.replies n rest c.in_each.new.draft.maps one split (rw c.seek_ctx.ensures at c.in_ok-done.ensures.maps) answer refl;
+      kept = subst (λ (m : Maps). With AnySlot (StaysPart start.keys start.maps) a.task.now.slots.now m) (sym (rw c.seek_ctx.ensures at c.in_ok-done.ensures.maps))
           (kept_in_each a.task.now.rules.now (commands_keep_part a.task.now.rules.now start.keys start.maps) a.task.now.number n a.task.now.slots.now a.task.now.sent.now now (plain_can a.task.now.sent.now.props c.requires.plain)
           (listed start.keys start.maps (Each n) (paired_commands a.task.now.slots.now a.task.now.sent.now.commands) (c.requires.covered n).held) c.loop-number.invariant.kept);
-      keys = c.in_ok-done.ensures.keys ∙ c.loop-number.invariant.keys;
+      keys = c.in_ok-done.ensures.keys ∙ ap (λ (p : Parted). p.keys) c.seek_ctx.ensures ∙ c.loop-number.invariant.keys;
       prepared = c.in_ok-done.ensures.prepared;
     }
 

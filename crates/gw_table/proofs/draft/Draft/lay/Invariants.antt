@@ -9,7 +9,7 @@ use Rattle.gw_table.proofs.draft.Draft.lay.Given as goal
 abbrev pub invariant-loop-i : goal.invariant-loop-i
 invariant-loop-i l = record {
   keys : l.self.keys ≡ l.fn.self.keys;
-  laid : l.self.maps ≡ overlaid (take l.i l.part-inside.keys.items) (maps_of (celled l.part-inside.keys.items l.part-inside.cells.items)) l.fn.self.maps;
-  rest : (e : Cell) (j : ℕ) → l.i ≤ j → get_or l.cells.items j e ≡ get_or l.part-inside.cells.items j e;
-  as_many : length l.cells.items ≡ length l.part-inside.keys.items;
+  laid : l.self.maps ≡ overlaid (take l.i l.key-items) (maps_of (celled l.key-items l.initial.cells.items)) l.fn.self.maps;
+  rest : (e : Cell) (j : ℕ) → l.i ≤ j → get_or l.cells.items j e ≡ get_or l.initial.cells.items j e;
+  as_many : length l.cells.items ≡ length l.key-items;
 }
