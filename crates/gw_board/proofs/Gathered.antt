@@ -1,14 +1,16 @@
 -- Stretches of places in chains: the keys of each chain, as they are collected, and that chains are apart.
-use Rattle.std.proofs.Common.{◌≡◌, ◌≢◌, ℕ, zero, suc, ◌<◌, Bool, true, false, cond, List, [], ◌∷◌, length, Some, refl, sym, subst, ◌∙◌, arith, slice_index_or}
+use Rattle.std.proofs.Common.{◌≡◌, ◌≢◌, ℕ, zero, suc, ◌<◌, ◌-◌, Bool, true, false, ◌&&◌, cond, List, [], ◌∷◌, length, take, drop, take-append-drop, Some, refl, sym, subst, ◌∙◌, arith, slice_index_or}
 use Rattle.std.specs.Prelude.{slice_index, slice_set}
 use Rattle.std.specs.Global.{Vec}
-use Rattle.std.specs.List.{All, AllZip}
+use Rattle.std.specs.Cmp.Lexicographic.{pointwise}
+use Rattle.std.specs.List.{All, AllZip, ends_with}
 use Rattle.std.proofs.lemmas.List.Elements.{All-nil, All-cons, All-head, All-tail}
 use Rattle.std.proofs.lemmas.Slice.Zip.{AllZip-long}
 use Rattle.gw_base.specs.declared.key.Key.{Key}
 use Rattle.gw_base.specs.declared.key.Key.TheVariants.{Whole}
 use Rattle.gw_base.specs.Keys.{has, same_key, Among, AreApart}
-use Rattle.gw_base.proofs.NamesInLists.{or_cases, either}
+use Rattle.gw_base.proofs.KeyTests.{any-append_right}
+use Rattle.gw_base.proofs.NamesInLists.{or_left, or_right, or_cases, either}
 use Rattle.gw_table.specs.KeyLists.{IsInOrder}
 use Rattle.gw_table.specs.Maps.{Maps}
 use Rattle.gw_table.proofs.KeyOrder.{same_key_is}
@@ -26,12 +28,38 @@ collected_there [] c v l = absurd (omega arith)
 collected_there (x ∷ xs) zero v l = refl
 collected_there (x ∷ xs) (suc c) v l = collected_there xs c v (omega arith)
 
+pub collected_is : (lists : List (Vec Key)) (c : ℕ) (v : Vec Key) → c < length lists → (slice_index_or lists c v).items ≡ collected_at lists c
+collected_is [] c v l = absurd (omega arith)
+collected_is (x ∷ xs) zero v l = refl
+collected_is (x ∷ xs) (suc c) v l = collected_is xs c v (omega arith)
+
 pub collected_stays : (lists : List (Vec Key)) (c g : ℕ) (old v : Vec Key) → old ≡ slice_index_or lists c old → Among old.items v.items → Among (collected_at lists g) (collected_at (slice_set lists c v) g)
 collected_stays [] c g old v e h = λ k j. j
 collected_stays (x ∷ xs) zero zero old v e h = subst (λ (y : Vec Key). Among y.items v.items) e h
 collected_stays (x ∷ xs) zero (suc g) old v e h = λ k j. j
 collected_stays (x ∷ xs) (suc c) zero old v e h = λ k j. j
 collected_stays (x ∷ xs) (suc c) (suc g) old v e h = collected_stays xs c g old v e h
+
+first_of_both : (a b : Bool) → (a && b) ≡ true → a ≡ true
+first_of_both a b h = grind arith
+
+second_of_both : (a b : Bool) → (a && b) ≡ true → b ≡ true
+second_of_both a b h = grind arith
+
+-- a list that ends with keys, by a test that is theirs, has them
+module _ (test : Key → Key → Bool) (own : (a b : Key) → test a b ≡ same_key a b) where
+  same_lists : (xs ys : List Key) → pointwise test xs ys ≡ true → Among xs ys
+  same_lists [] ys e k h = absurd cc
+  same_lists (x ∷ xs) [] e k h = absurd cc
+  same_lists (x ∷ xs) (y ∷ ys) e k h =
+      either (or_cases (same_key k x) (has xs k) h)
+      (λ q. or_left (same_key k y) (has ys k) (subst (λ (z : Key). same_key z y ≡ true) (sym (same_key_is k x q)) (sym (own x y) ∙ first_of_both (test x y) (pointwise test xs ys) e)))
+      (λ j. or_right (same_key k y) (has ys k) (same_lists xs ys (second_of_both (test x y) (pointwise test xs ys) e) k j))
+
+  pub ends_among : (list keys : List Key) → ends_with test list keys ≡ true → Among keys list
+  ends_among list keys e = λ k h.
+      subst (λ (l : List Key). has l k ≡ true) (take-append-drop (length list - length keys) list)
+      (any-append_right (same_key k) (take (length list - length keys) list) (drop (length list - length keys) list) (same_lists keys (drop (length list - length keys) list) e k h))
 
 -- ---- they are put in order
 

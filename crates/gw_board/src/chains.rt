@@ -200,13 +200,16 @@ fn empty_lists(alloc: Global, count: usize) -> Result<Vec<Vec<Key>>, NoMemory>
     Ok(lists)
 }
 
-/// Keys go to the list of a chain.
+/// Keys go to the list of a chain, unless it ends with them: requests that follow one another often have the same.
 fn add_to(lists: &mut Vec<Vec<Key>>, chain: usize, keys: &[Key]) -> Result<(), NoMemory>
     requires { chain < length lists.old.items }
     ensures there { OnOk result (Among keys.now (collected_at lists.new.items chain)) }
     ensures stay { OnOk result ((g : ℕ) → Among (collected_at lists.old.items g) (collected_at lists.new.items g)) }
     ensures len { length lists.new.items ≡ length lists.old.items }
 {
+    if lists[chain].ends_with(keys) {
+        return Ok(());
+    }
     let list = &mut lists[chain];
     list.extend_from_slice(keys)?;
     Ok(())

@@ -1,6 +1,6 @@
 pub mod Configured
 pub mod OneMore
-pub mod Beside
+pub mod AllGiven
 pub mod NewForms
 pub mod InForm
 pub mod RepliesKept
@@ -8,8 +8,8 @@ pub mod ErrorsRead
 pub mod Cursors
 pub mod Phases
 pub mod Filling
-pub mod BoardTexts
 pub mod Reserving
 pub mod Carrying
 pub mod Answered
 pub mod Outcomes
+pub mod BoardTexts

@@ -3,7 +3,8 @@ use Rattle.std.specs.Option.{option_to_list}
 use Rattle.gw_engine.specs.declared.datagram.Datagram.{Datagram}
 use Rattle.gw_engine.specs.declared.items.BurstItem.{BurstItem}
 use Rattle.gw_engine.specs.Phases.{text_for, answer_for}
-use Rattle.gw_engine.proofs.Beside.{side_by_side, all_given}
+use Rattle.gw_board.proofs.Beside.{side_by_side}
+use Rattle.gw_engine.proofs.AllGiven.{all_given}
 use Rattle.gw_engine.proofs.Carrying.{ok_with}
 use Rattle.gw_engine.proofs.answers.by_workers.Goals as goal
 
