@@ -1,16 +1,16 @@
 -- Stretches of places in chains: the keys of each chain, as they are collected, and that chains are apart.
-use Rattle.std.proofs.Common.{◌≡◌, ◌≢◌, ℕ, zero, suc, ◌<◌, ◌-◌, Bool, true, false, ◌&&◌, cond, List, [], ◌∷◌, length, take, drop, take-append-drop, Some, refl, sym, subst, ◌∙◌, arith, slice_index_or}
+use Rattle.std.proofs.Common.{◌≡◌, ◌≢◌, ℕ, zero, suc, ◌<◌, ◌-◌, Bool, true, false, cond, List, [], ◌∷◌, ◌++◌, length, take, Some, refl, sym, subst, ◌∙◌, arith, slice_index_or}
 use Rattle.std.specs.Prelude.{slice_index, slice_set}
 use Rattle.std.specs.Global.{Vec}
-use Rattle.std.specs.Cmp.Lexicographic.{pointwise}
 use Rattle.std.specs.List.{All, AllZip, ends_with}
 use Rattle.std.proofs.lemmas.List.Elements.{All-nil, All-cons, All-head, All-tail}
+use Rattle.std.proofs.lemmas.Slice.Eq.{ends_is}
 use Rattle.std.proofs.lemmas.Slice.Zip.{AllZip-long}
 use Rattle.gw_base.specs.declared.key.Key.{Key}
 use Rattle.gw_base.specs.declared.key.Key.TheVariants.{Whole}
 use Rattle.gw_base.specs.Keys.{has, same_key, Among, AreApart}
-use Rattle.gw_base.proofs.KeyTests.{any-append_right}
-use Rattle.gw_base.proofs.NamesInLists.{or_left, or_right, or_cases, either}
+use Rattle.gw_base.proofs.KeyTests.{any-append_right, same-itself}
+use Rattle.gw_base.proofs.NamesInLists.{or_cases, either}
 use Rattle.gw_table.specs.KeyLists.{IsInOrder}
 use Rattle.gw_table.specs.Maps.{Maps}
 use Rattle.gw_table.proofs.KeyOrder.{same_key_is}
@@ -40,26 +40,12 @@ collected_stays (x ∷ xs) zero (suc g) old v e h = λ k j. j
 collected_stays (x ∷ xs) (suc c) zero old v e h = λ k j. j
 collected_stays (x ∷ xs) (suc c) (suc g) old v e h = collected_stays xs c g old v e h
 
-first_of_both : (a b : Bool) → (a && b) ≡ true → a ≡ true
-first_of_both a b h = grind arith
-
-second_of_both : (a b : Bool) → (a && b) ≡ true → b ≡ true
-second_of_both a b h = grind arith
-
 -- a list that ends with keys, by a test that is theirs, has them
-module _ (test : Key → Key → Bool) (own : (a b : Key) → test a b ≡ same_key a b) where
-  same_lists : (xs ys : List Key) → pointwise test xs ys ≡ true → Among xs ys
-  same_lists [] ys e k h = absurd cc
-  same_lists (x ∷ xs) [] e k h = absurd cc
-  same_lists (x ∷ xs) (y ∷ ys) e k h =
-      either (or_cases (same_key k x) (has xs k) h)
-      (λ q. or_left (same_key k y) (has ys k) (subst (λ (z : Key). same_key z y ≡ true) (sym (same_key_is k x q)) (sym (own x y) ∙ first_of_both (test x y) (pointwise test xs ys) e)))
-      (λ j. or_right (same_key k y) (has ys k) (same_lists xs ys (second_of_both (test x y) (pointwise test xs ys) e) k j))
-
-  pub ends_among : (list keys : List Key) → ends_with test list keys ≡ true → Among keys list
-  ends_among list keys e = λ k h.
-      subst (λ (l : List Key). has l k ≡ true) (take-append-drop (length list - length keys) list)
-      (any-append_right (same_key k) (take (length list - length keys) list) (drop (length list - length keys) list) (same_lists keys (drop (length list - length keys) list) e k h))
+pub ends_among : (test : Key → Key → Bool) → ((a b : Key) → test a b ≡ same_key a b) → (list keys : List Key) (ends : Bool) → ends ≡ ends_with test list keys → ends ≡ true → Among keys list
+ends_among test own list keys ends is so = λ k h.
+    let split : list ≡ take (length list - length keys) list ++ keys =
+    (ends_is (λ a b. (λ e. same_key_is a b (sym (own a b) ∙ e), λ e. own a b ∙ subst (λ (z : Key). same_key a z ≡ true) e (same-itself a))) list keys ends is).0 so in
+    subst (λ (l : List Key). has l k ≡ true) (sym split) (any-append_right (same_key k) (take (length list - length keys) list) keys h)
 
 -- ---- they are put in order
 

@@ -24,4 +24,4 @@ returns-then-ends_with-clause-there c =
     let keys : List Key = c.args.keys.now in
     let at : c.deref.result.now ≡ collected_at c.args.lists.now.items c.args.chain = c.deref.ensures.value ∙ ap (λ (v : Vec Key). v.items) c.index.ensures ∙ collected_is c.args.lists.now.items c.args.chain c.index.result.now c.requires in
     subst (Among keys) at
-    (ends_among _ (test_by_cases _ (λ a b. refl) (λ a b. refl) (λ a. refl) (λ a b. refl) (λ a b. refl) (λ a. refl) (λ a. refl) (λ a. refl) refl) c.deref.result.now keys (sym c.ends_with.ensures.value ∙ c.if-ends_with.true))
+    (ends_among _ (test_by_cases _ (λ a b. refl) (λ a b. refl) (λ a. refl) (λ a b. refl) (λ a b. refl) (λ a. refl) (λ a. refl) (λ a. refl) refl) c.deref.result.now keys c.ends_with.result c.ends_with.ensures.value c.if-ends_with.true)
